@@ -1,0 +1,45 @@
+use mathlib.Core.Path.{refl}
+use Rattle.engine.proofs.FreshWords.{fresh-drawn}
+use borrow.Author.Needs.{needs}
+use Rattle.engine.proofs.fresh.lay.Statement.{statement}
+use Rattle.engine.proofs.fresh.lay.Tie as tie
+use Rattle.engine.proofs.fresh.lay.Reads as reads
+use Rattle.engine.proofs.fresh.lay.Lts as lts
+use Rattle.engine.proofs.fresh.write_block.Reads as write-block-reads
+use Rattle.engine.proofs.fresh.write_header.Reads as write-header-reads
+use Rattle.engine.proofs.fresh.write_heads.Reads as write-heads-reads
+
+-- src/fresh.rt:59:15
+mul-end : tie.Need-mul-end
+mul-end c = search needs
+
+-- src/fresh.rt:60:5
+write-header-requires : tie.Need-write-header-requires
+write-header-requires c κs = search needs
+
+-- src/fresh.rt:61:5
+write-heads-requires : tie.Need-write-heads-requires
+write-heads-requires c κs = search needs
+
+-- src/fresh.rt:62:5
+write-block-requires : tie.Need-write-block-requires
+write-block-requires c κs = search needs
+
+-- src/fresh.rt:55:1
+same-length : tie.Need-same-length
+same-length c = search needs
+
+-- src/fresh.rt:55:1
+returns : tie.Need-returns
+returns c = fresh-drawn _ _ _ _ _ refl (c .before .before .before .before .before .before .before .before .before .before .before .before .before .pre .0) (c .before .before .before .before .before .before .before .before .before .before .write-header .ensures) (c .before .before .before .before .before .before .write-heads .ensures) (c .before .before .write-block .ensures)
+
+pub lay-spec : {M : Type 1} → statement M
+lay-spec =
+    tie.close
+    (tie.spec
+    mul-end
+    write-header-requires
+    write-heads-requires
+    write-block-requires
+    same-length
+    returns)

@@ -1,0 +1,2 @@
+// What a call does once the heap is known to be as it must be.
+pub mod fresh;

@@ -1,0 +1,61 @@
+// The heap's calls. Each checks what it is lent: it does what document 01's rule says, or refuses and leaves every byte.
+use engine::fresh;
+use model::Address;
+use model::LONGEST;
+use model::MAGIC;
+use model::SHORTEST;
+use words::word;
+ghost use mathlib.Core.Path.{_≡_};
+ghost use Prim.Native.Nat.{_≤_};
+ghost use Rattle.model.specs.Shape.{wide};
+ghost use Rattle.model.specs.Calls.{Initialises};
+ghost use Rattle.heap.specs.Answers.{outcome, refusalNumber};
+
+// Why a call says no, in the order of document 01's numbers, 1 to 7.
+pub enum Refusal {
+    BadLength,
+    NotOpened,
+    NotSound,
+    BadSize,
+    NotLive,
+    NoRoom,
+    AlreadyOpened,
+}
+
+// What a call answers: granted, with an address or with 0 where it gives none; or why not.
+pub enum Answer {
+    Granted(Address),
+    Refused(Refusal),
+}
+
+// Document 01's number of a refusal.
+pub fn refusal_number(k: Refusal) -> u64
+    ensures { λ r. ⌜ (r ≡ refusalNumber k) × (r ≤ 7) ⌝ }
+{
+    match k {
+        Refusal::BadLength => 1,
+        Refusal::NotOpened => 2,
+        Refusal::NotSound => 3,
+        Refusal::BadSize => 4,
+        Refusal::NotLive => 5,
+        Refusal::NoRoom => 6,
+        Refusal::AlreadyOpened => 7,
+    }
+}
+
+// Opens a heap in a buffer that holds none yet.
+pub fn initialise(h: &mut [u8]) -> Answer
+    ensures { λ r. ⌜ Initialises wide (now (h .entry)) (outcome r (now (h .exit))) ⌝ }
+{
+    if h.len() < SHORTEST {
+        return Answer::Refused(Refusal::BadLength);
+    }
+    if LONGEST < h.len() {
+        return Answer::Refused(Refusal::BadLength);
+    }
+    if word(h, 0) == MAGIC {
+        return Answer::Refused(Refusal::AlreadyOpened);
+    }
+    fresh::lay(h);
+    Answer::Granted(Address(0))
+}

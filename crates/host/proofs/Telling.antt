@@ -1,0 +1,31 @@
+-- An answer's number does not depend on the bytes, so it tells the outcome.
+use Prim.Native.Nat.{ℕ, _*_}
+use mathlib.Core.Path.{_≡_, refl, _∙_}
+use mathlib.Core.List.{List, []}
+use native.Mathlib.Omega.{arith}
+use Rattle.model.specs.declared.Address.{Address}
+use Rattle.model.specs.Calls.{Outcome, number}
+use Rattle.heap.specs.Answers.{refusalNumber, outcome}
+use Rattle.heap.specs.declared.Refusal.{Refusal}
+use Rattle.heap.specs.declared.Answer.{Answer}
+use Rattle.heap.specs.declared.Answer.the-variants.{Granted, Refused}
+use Rattle.host.specs.Numbers.{Numbered}
+
+number-same : (r : Answer) (b c : List ℕ) → number (outcome r b) ≡ number (outcome r c)
+number-same (Granted a) b c = refl
+number-same (Refused k) b c = refl
+
+pub told : (allows : Outcome → Type 0) (r : Answer) (n : ℕ) (b : List ℕ) → allows (outcome r b) → n ≡ number (outcome r []) → Numbered allows n b
+told allows r n b a e =
+    record { outcome = outcome r b; allowed = a; number = e ∙ number-same r [] b; heap = go r b }
+  where
+    go : (r : Answer) (b : List ℕ) → b ≡ outcome r b .heap
+    go (Granted a) b = refl
+    go (Refused k) b = refl
+
+-- what the two ways through `number` give
+pub number-granted : (r : Answer) (a : Address) → r ≡ Granted a → a .0 ≡ number (outcome r [])
+number-granted r a e = rw e (omega arith)
+
+pub number-refused : (r : Answer) (k : Refusal) (n : ℕ) → r ≡ Refused k → n ≡ refusalNumber k → n * 4294967296 ≡ number (outcome r [])
+number-refused r k n e f = rw (e, f) (omega arith)

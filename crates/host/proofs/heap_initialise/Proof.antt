@@ -1,0 +1,27 @@
+use Rattle.host.proofs.Telling.{told}
+use borrow.Author.Needs.{needs}
+use Rattle.host.proofs.heap_initialise.Statement.{statement}
+use Rattle.host.proofs.heap_initialise.Tie as tie
+use Rattle.host.proofs.heap_initialise.Reads as reads
+use Rattle.host.proofs.heap_initialise.Lts as lts
+use Rattle.heap.proofs.initialise.Reads as initialise-reads
+use Rattle.host.proofs.number.Reads as number-reads
+
+-- src/lib.rt:25:12
+initialise-requires : tie.Need-initialise-requires
+initialise-requires c κs = search needs
+
+-- src/lib.rt:25:5
+number-requires : tie.Need-number-requires
+number-requires c κs = search needs
+
+-- src/lib.rt:21:1
+same-length : tie.Need-same-length
+same-length c = search needs
+
+-- src/lib.rt:21:1
+returns : tie.Need-returns
+returns c = told _ (c .before .before .before .initialise .result) _ _ (c .before .before .before .initialise .ensures) (c .number .ensures)
+
+pub heap-initialise-spec : {M : Type 1} → statement M
+heap-initialise-spec = tie.close (tie.spec initialise-requires number-requires same-length returns)

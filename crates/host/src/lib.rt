@@ -1,0 +1,26 @@
+// The calls for the console's C host: numbers and a byte slice in, refusal × 2^32 + address out.
+use heap::Answer;
+use heap::refusal_number;
+ghost use mathlib.Core.Path.{_≡_};
+ghost use mathlib.Core.List.{[]};
+ghost use Rattle.model.specs.Shape.{wide};
+ghost use Rattle.model.specs.Calls.{Initialises};
+ghost use Rattle.heap.specs.Answers.{outcome};
+ghost use Rattle.host.specs.Numbers.{Numbered};
+
+// An answer as one number.
+fn number(r: Answer) -> u64
+    ensures { λ n. ⌜ n ≡ Rattle.model.specs.Calls.number (outcome r []) ⌝ }
+{
+    match r {
+        Answer::Granted(a) => a.0 as u64,
+        Answer::Refused(k) => refusal_number(k) * 4294967296,
+    }
+}
+
+#[no_mangle]
+pub extern "C" fn heap_initialise(h: &mut [u8]) -> u64
+    ensures { λ r. ⌜ Numbered (Initialises wide (now (h .entry))) r (now (h .exit)) ⌝ }
+{
+    number(heap::initialise(h))
+}

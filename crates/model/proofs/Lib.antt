@@ -1,0 +1,14 @@
+pub mod Sizes
+pub mod Members
+pub mod Pictures
+pub mod Blocks
+pub mod Links
+pub mod Replace
+pub mod Drawn
+pub mod Valid
+pub mod Joined
+pub mod Fresh
+pub mod Payloads
+pub mod OnLayouts
+pub mod Figures
+pub mod Vectors

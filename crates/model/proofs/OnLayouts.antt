@@ -1,0 +1,43 @@
+-- What a call on a sound heap answers, and the layout that it leaves: the rules of Calls on layouts alone, to compute with.
+use Prim.Native.Nat.{ℕ}
+use mathlib.Core.Bool.{cond, _&&_}
+use mathlib.Core.Option.{Option, none, some}
+use lib.Dec.{leb}
+use Rattle.model.specs.Shape.{Shape}
+use Rattle.model.specs.Layout.{Layout}
+use Rattle.model.specs.Rules.{Made, allocate, find, stays}
+use Rattle.model.specs.Refusals.{badSize, notLive, noRoom, alreadyOpened}
+use Rattle.model.specs.Calls.{found, without}
+use Rattle.model.specs.Promises.{Call, initialising, checking, allocating, freeing, resizing}
+
+pub record Done : Type 0 where
+  pub refusal : ℕ
+  pub address : ℕ
+  pub layout : Layout
+
+abbrev refuse : ℕ → Layout → Done
+refuse k L = record { refusal = k; address = 0; layout = L }
+
+abbrev grant : ℕ → Layout → Done
+grant a L = record { refusal = 0; address = a; layout = L }
+
+module _ (S : Shape) where
+  abbrev sized : ℕ → Layout → Done → Done
+  sized n L next = cond (leb 1 n && leb n (S .most)) next (refuse badSize L)
+
+  abbrev made : Layout → Option Made → (Made → Layout) → Done
+  made L none then = refuse noRoom L
+  made L (some m) then = grant (m .at) (then m)
+
+  abbrev resized : ℕ → Done → Option Layout → Done
+  resized a move none = move
+  resized a move (some L) = grant a L
+
+  unfoldable pub doing : Call → Layout → Done
+  doing initialising L = refuse alreadyOpened L
+  doing checking L = grant 0 L
+  doing (allocating n) L = sized n L (made L (allocate S n L) (λ m. m .layout))
+  doing (freeing a) L = found S (find S a L) (refuse notLive L) (grant 0 (without S a L))
+  doing (resizing a n) L =
+      let move = made L (allocate S n L) (λ m. without S a (m .layout)) in
+      sized n L (found S (find S a L) (refuse notLive L) (resized a move (stays S n (find S a L) L)))

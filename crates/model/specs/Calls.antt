@@ -1,0 +1,127 @@
+-- What each call answers and leaves, for all bytes: the refusals in document 01's order, then the rule.
+use Prim.Native.Nat.{ℕ, _+_, _*_, _^_, _≤_, min}
+use mathlib.Core.Path.{_≡_}
+use mathlib.Core.Bool.{cond, _&&_}
+use mathlib.Core.List.{List, []}
+use mathlib.Core.Option.{Option, none, some}
+use lib.ListN.{length}
+use lib.Dec.{leb}
+use Rattle.words.specs.Word.{wordAt, put}
+use Rattle.words.specs.Copy.{copied}
+use Rattle.model.specs.Picture.{draw}
+use Rattle.model.specs.Shape.{Shape, start, least, endOf}
+use Rattle.model.specs.Layout.{Layout, words}
+use Rattle.model.specs.Sound.{Here, Sound}
+use Rattle.model.specs.Rules.{Made, Found, block, thing, nothing, allocate, find, freed, capacity, stays, fresh}
+use Rattle.model.specs.Reading.{Step, ended, step, Statistics, counted, table, lookedUp}
+use Rattle.model.specs.Refusals.{badLength, notOpened, notSound, badSize, notLive, noRoom, alreadyOpened}
+
+-- of a call that may change the heap: its refusal (0: granted), its address, and the heap's bytes then
+pub record Outcome : Type 0 where
+  pub refusal : ℕ
+  pub address : ℕ
+  pub heap : List ℕ
+
+abbrev pub refused : List ℕ → ℕ → Outcome
+refused b k = record { refusal = k; address = 0; heap = b }
+
+abbrev pub granted : ℕ → List ℕ → Outcome
+granted a b = record { refusal = 0; address = a; heap = b }
+
+-- the one number that the C host gets
+abbrev pub number : Outcome → ℕ
+number o = o .refusal * 2 ^ 32 + o .address
+
+-- of a call that only reads: its refusal, and what it answers
+pub record Told (A : Type 0) : Type 0 where
+  pub refusal : ℕ
+  pub answer : A
+
+module _ (S : Shape) where
+  -- N is as it must be; the first 8 bytes are there
+  abbrev pub Lent : List ℕ → Type 0
+  Lent b = (start S + least S ≤ length b) × (length b ≤ S .most)
+
+  abbrev pub Opened : List ℕ → Type 0
+  Opened b = wordAt 8 b 0 ≡ S .magic
+
+  -- the bytes with a layout's picture drawn over them
+  abbrev pub drawn : Layout → List ℕ → List ℕ
+  drawn L b = draw (S .word) (words S (endOf (length b)) L) b
+
+  -- every call but initialise: r is the refusal 1, 2 or 3 where it applies, and else what the rule gives for the heap's layout
+  pub record Checked {A : Type 0} (b : List ℕ) (no : ℕ → A) (rule : Layout → A) (r : A) : Type 0 where
+    pub one : (Lent b → ⊥) → r ≡ no badLength
+    pub two : Lent b → (Opened b → ⊥) → r ≡ no notOpened
+    pub three : Lent b → Opened b → (Sound S b → ⊥) → r ≡ no notSound
+    pub sound : Lent b → (L : Layout) → Here S b L → r ≡ rule L
+
+  -- 4 where the size is bad; 5 where nothing is live at the address; 6 where the allocation finds nothing; and else what comes next
+  abbrev pub sized : ℕ → List ℕ → Outcome → Outcome
+  sized n b next = cond (leb 1 n && leb n (S .most)) next (refused b badSize)
+
+  abbrev pub found : {A : Type 0} → Found → A → A → A
+  found nothing else next = else
+  found (block t) else next = next
+  found (thing o c) else next = next
+
+  abbrev pub made : List ℕ → Option Made → (Made → List ℕ) → Outcome
+  made b none heap = refused b noRoom
+  made b (some m) heap = granted (m .at) (heap m)
+
+  -- Initialise
+  pub record Initialises (b : List ℕ) (r : Outcome) : Type 0 where
+    pub one : (Lent b → ⊥) → r ≡ refused b badLength
+    pub seven : Lent b → Opened b → r ≡ refused b alreadyOpened
+    pub opens : Lent b → (Opened b → ⊥) → r ≡ granted 0 (drawn (fresh S (endOf (length b))) (put 8 b 0 (S .magic)))
+
+  -- Check
+  abbrev pub Checks : List ℕ → Outcome → Type 0
+  Checks b r = Checked b (refused b) (λ L. granted 0 b) r
+
+  -- Allocate
+  abbrev pub allocated : List ℕ → ℕ → Layout → Outcome
+  allocated b n L = made b (allocate S n L) (λ m. drawn (m .layout) b)
+
+  abbrev pub Allocates : List ℕ → ℕ → Outcome → Type 0
+  Allocates b n r = Checked b (refused b) (λ L. sized n b (allocated b n L)) r
+
+  -- Free
+  abbrev pub without : ℕ → Layout → Layout
+  without a L = freed S (find S a L) L
+
+  abbrev pub Frees : List ℕ → ℕ → Outcome → Type 0
+  Frees b a r = Checked b (refused b) (λ L. found (find S a L) (refused b notLive) (granted 0 (drawn (without a L) b))) r
+
+  -- Resize: in place, or else allocate, copy the smaller of old capacity and n, free the old
+  abbrev pub moved : List ℕ → ℕ → ℕ → Layout → Outcome
+  moved b a n L =
+      made b (allocate S n L) (λ m. drawn (without a (m .layout)) (copied a (m .at) (min (capacity S (find S a L)) n) (drawn (m .layout) b)))
+
+  abbrev pub resized : List ℕ → ℕ → Outcome → Option Layout → Outcome
+  resized b a move none = move
+  resized b a move (some L) = granted a (drawn L b)
+
+  abbrev pub Resizes : List ℕ → ℕ → ℕ → Outcome → Type 0
+  Resizes b a n r =
+      Checked b (refused b)
+      (λ L. sized n b (found (find S a L) (refused b notLive) (resized b a (moved b a n L) (stays S n (find S a L) L))))
+      r
+
+  -- Look-up
+  abbrev pub LooksUp : List ℕ → ℕ → Told (List ℕ) → Type 0
+  LooksUp b a r =
+      Checked b (λ k. record { refusal = k; answer = [] })
+      (λ L. found (find S a L) (record { refusal = notLive; answer = [] }) (record { refusal = 0; answer = lookedUp S b a L }))
+      r
+
+  -- Walk
+  abbrev pub Steps : List ℕ → ℕ → Told Step → Type 0
+  Steps b w r = Checked b (λ k. record { refusal = k; answer = ended S w }) (λ L. record { refusal = 0; answer = step S w L }) r
+
+  -- Statistics, and the table of classes
+  abbrev pub Counts : List ℕ → Told Statistics → Type 0
+  Counts b r = Checked b (λ k. record { refusal = k; answer = counted [] }) (λ L. record { refusal = 0; answer = counted (L .blocks) }) r
+
+  abbrev pub Tabulates : List ℕ → Told (List (List ℕ)) → Type 0
+  Tabulates b r = Checked b (λ k. record { refusal = k; answer = table S [] }) (λ L. record { refusal = 0; answer = table S (L .blocks) }) r

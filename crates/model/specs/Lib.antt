@@ -1,0 +1,10 @@
+pub mod Shape
+pub mod Picture
+pub mod Layout
+pub mod Sound
+pub mod Rules
+pub mod Live
+pub mod Reading
+pub mod Refusals
+pub mod Calls
+pub mod Promises

@@ -1,0 +1,162 @@
+-- The demands, as types: what is to be proved of the calls.
+use Prim.Native.Nat.{ℕ, _+_, _≤_, _<_, min}
+use mathlib.Core.Path.{_≡_}
+use mathlib.Core.Logic.{_⊎_, _↔_}
+use mathlib.Core.List.{List, [], _∷_}
+use mathlib.Core.Option.{none}
+use lib.ListN.{length, getD, take}
+use Rattle.model.specs.Picture.{Word}
+use Rattle.model.specs.Shape.{Shape, start, largest, classOf, needOf, pageNeed}
+use Rattle.model.specs.Layout.{free, Layout, words}
+use Rattle.model.specs.Sound.{Sound, Valid, Here}
+use Rattle.model.specs.Rules.{find, stays}
+use Rattle.model.specs.Live.{_∈_, InTurn, Payload, content, live}
+use Rattle.model.specs.Refusals.{noRoom}
+use Rattle.model.specs.Calls.{Outcome, refused, Lent, Initialises, Checks, Allocates, Frees, Resizes, LooksUp, Steps, Counts, Tabulates}
+
+-- a call that may change the heap, by its sizes and addresses
+pub data Call : Type 0 where
+  initialising : Call
+  checking : Call
+  allocating : ℕ → Call
+  freeing : ℕ → Call
+  resizing : ℕ → ℕ → Call
+
+module _ (S : Shape) where
+  -- what may come of a call on bytes b
+  unfoldable pub Comes : List ℕ → Call → Outcome → Type 0
+  Comes b initialising r = Initialises S b r
+  Comes b checking r = Checks S b r
+  Comes b (allocating n) r = Allocates S b n r
+  Comes b (freeing a) r = Frees S b a r
+  Comes b (resizing a n) r = Resizes S b a n r
+
+  -- Demand 1: a refusal answers address 0 and leaves every byte as it was
+  abbrev pub RefusedUntouched : Type 0
+  RefusedUntouched = (b : List ℕ) (q : Call) (r : Outcome) → Comes b q r → (r .refusal ≡ 0 → ⊥) → r ≡ refused b (r .refusal)
+
+  -- Any two results that a contract allows are equal
+  abbrev pub Determined : Type 0
+  Determined = (b : List ℕ) (q : Call) (r r′ : Outcome) → Comes b q r → Comes b q r′ → r ≡ r′
+
+  abbrev pub OnlyOne : {A : Type 0} → (A → Type 0) → Type 0
+  OnlyOne {A} P = (r r′ : A) → P r → P r′ → r ≡ r′
+
+  abbrev pub ReadingDetermined : Type 0
+  ReadingDetermined =
+      (b : List ℕ)
+      → ((a : ℕ) → OnlyOne (LooksUp S b a)) × ((w : ℕ) → OnlyOne (Steps S b w)) × OnlyOne (Counts S b) × OnlyOne (Tabulates S b)
+
+  -- Demand 2: the check accepts exactly the sound heaps, and a heap has one layout at most
+  abbrev pub AcceptsExactly : Type 0
+  AcceptsExactly = (b : List ℕ) (r : Outcome) → Checks S b r → (r .refusal ≡ 0) ↔ (Lent S b × Sound S b)
+
+  abbrev pub OneLayout : Type 0
+  OneLayout = (b : List ℕ) (L L′ : Layout) → Here S b L → Here S b L′ → L ≡ L′
+
+  -- no call makes a sound heap unsound, and a heap that is opened is sound
+  abbrev pub StaysSound : Type 0
+  StaysSound = (b : List ℕ) (q : Call) (r : Outcome) → Comes b q r → Sound S b → Sound S (r .heap)
+
+  abbrev pub OpensSound : Type 0
+  OpensSound = (b : List ℕ) (r : Outcome) → Initialises S b r → r .refusal ≡ 0 → Sound S (r .heap)
+
+  -- live payloads never overlap, lie in the data area, and hold no word of the picture
+  abbrev pub NoOverlap : Type 0
+  NoOverlap = (end : ℕ) (L : Layout) → Valid S end L → (x y : Payload) → InTurn x y (live S L) → x .address + x .size ≤ y .address
+
+  abbrev pub InArea : Type 0
+  InArea = (end : ℕ) (L : Layout) → Valid S end L → (x : Payload) → x ∈ live S L → (start S ≤ x .address) × (x .address + x .size ≤ end)
+
+  abbrev pub NoWordInside : Type 0
+  NoWordInside =
+      (end : ℕ) (L : Layout) → Valid S end L → (x : Payload) → x ∈ live S L → (v : Word) → v ∈ words S end L
+      → x .address < v .at + S .word → v .at < x .address + x .size → ⊥
+
+  -- a payload is live in a heap after a call as before it, with the same bytes; nothing is live but what was, and what stands at a
+  abbrev pub Kept : List ℕ → List ℕ → Layout → Payload → Type 0
+  Kept b b′ L′ x = (x ∈ live S L′) × (content b′ x ≡ content b x)
+
+  abbrev pub OnlyNew : Layout → Layout → ℕ → Type 0
+  OnlyNew L L′ a = (x : Payload) → x ∈ live S L′ → (x ∈ live S L) ⊎ (x .address ≡ a)
+
+  -- a granted call of a heap with layout L, that then has layout L′
+  pub record Grants (b : List ℕ) (q : Call) (r : Outcome) (L L′ : Layout) : Type 0 where
+    pub lent : Lent S b
+    pub here : Here S b L
+    pub comes : Comes b q r
+    pub granted : r .refusal ≡ 0
+    pub then : Here S (r .heap) L′
+
+  -- allocate alters no payload, grants what was not live and holds n bytes, and makes nothing else live
+  abbrev pub AllocateKeeps : Type 0
+  AllocateKeeps =
+      (b : List ℕ) (n : ℕ) (r : Outcome) (L L′ : Layout) → Grants b (allocating n) r L L′
+      → ((x : Payload) → x ∈ live S L → Kept b (r .heap) L′ x × (x .address ≡ r .address → ⊥))
+      × OnlyNew L L′ (r .address)
+      × ((x : Payload) × (x ∈ live S L′) × (x .address ≡ r .address) × (n ≤ x .size))
+
+  -- free alters no payload but its own, and makes that one dead and no other
+  abbrev pub FreeKeeps : Type 0
+  FreeKeeps =
+      (b : List ℕ) (a : ℕ) (r : Outcome) (L L′ : Layout) → Grants b (freeing a) r L L′
+      → ((x : Payload) → x ∈ live S L → (x .address ≡ a → ⊥) → Kept b (r .heap) L′ x)
+      × ((x : Payload) → x ∈ live S L′ → (x ∈ live S L) × (x .address ≡ a → ⊥))
+
+  -- resize alters no payload but its own, makes nothing else live, grants what holds n bytes, and keeps the common beginning
+  abbrev pub ResizeKeeps : Type 0
+  ResizeKeeps =
+      (b : List ℕ) (a n : ℕ) (r : Outcome) (L L′ : Layout) → Grants b (resizing a n) r L L′
+      → ((x : Payload) → x ∈ live S L → (x .address ≡ a → ⊥) → Kept b (r .heap) L′ x)
+      × OnlyNew L L′ (r .address)
+      × ((x : Payload) → x ∈ live S L → x .address ≡ a
+      → ((y : Payload) × (y ∈ live S L′) × (y .address ≡ r .address) × (n ≤ y .size)
+      × (take (min (x .size) n) (content (r .heap) y) ≡ take (min (x .size) n) (content b x))))
+
+  -- "no room" exactly when there is no item and no block that fits
+  abbrev pub NoBlock : ℕ → Layout → Type 0
+  NoBlock need L = (t : ℕ) → free t ∈ L .blocks → t < need
+
+  abbrev pub NoRoom : ℕ → Layout → Type 0
+  NoRoom n L =
+      (n ≤ largest S → (getD (L .lists) (classOf n) [] ≡ []) × NoBlock (pageNeed S (classOf n)) L)
+      × (largest S < n → NoBlock (needOf S n) L)
+
+  abbrev pub NoRoomExactly : Type 0
+  NoRoomExactly =
+      (b : List ℕ) (n : ℕ) (r : Outcome) (L : Layout) → Lent S b → Here S b L → 1 ≤ n → n ≤ S .most
+      → (Allocates S b n r → (r .refusal ≡ noRoom) ↔ NoRoom n L)
+      × ((a : ℕ) (x : Payload) → x ∈ live S L → x .address ≡ a → Resizes S b a n r
+      → (r .refusal ≡ noRoom) ↔ ((stays S n (find S a L) L ≡ none) × NoRoom n L))
+
+  -- Demand 3: bytes that differ from a heap's at most inside its live payloads
+  abbrev pub Written : List ℕ → List ℕ → Type 0
+  Written b b′ =
+      (length b′ ≡ length b)
+      × ((L : Layout) → Here S b L → (i : ℕ) → ((x : Payload) → x ∈ live S L → x .address ≤ i → i < x .address + x .size → ⊥) → getD b′ i 0 ≡ getD b i 0)
+
+  -- an allocation or a free
+  abbrev pub Plain : Call → Type 0
+  Plain initialising = ⊥
+  Plain checking = ⊥
+  Plain (allocating n) = Unit {0}
+  Plain (freeing a) = Unit {0}
+  Plain (resizing a n) = ⊥
+
+  -- what a call of a run answered
+  pub record Answer : Type 0 where
+    pub refusal : ℕ
+    pub address : ℕ
+
+  -- a run of allocations and frees from bytes b, with writes before each: what was answered
+  pub data Run : List ℕ → List Call → List Answer → Type 0 where
+    over : {b : List ℕ} → Run b [] []
+    call : {b : List ℕ} (b′ : List ℕ) {q : Call} {qs : List Call} {r : Outcome} {rs : List Answer}
+        → Written b b′ → Plain q → Comes b′ q r → Run (r .heap) qs rs → Run b (q ∷ qs) (record { refusal = r .refusal; address = r .address } ∷ rs)
+
+  -- two fresh heaps, one longer: the same run gives the same answers, as long as the shorter one never says "no room"
+  abbrev pub LongerAgrees : Type 0
+  LongerAgrees =
+      (b d : List ℕ) (r t : Outcome) → Initialises S b r → r .refusal ≡ 0 → Initialises S d t → t .refusal ≡ 0 → length b ≤ length d
+      → (qs : List Call) (rs ts : List Answer) → Run (r .heap) qs rs → Run (t .heap) qs ts
+      → ((a : ℕ) → record { refusal = noRoom; address = a } ∈ rs → ⊥) → rs ≡ ts

@@ -1,0 +1,89 @@
+-- The numbers in which one console's heap differs from another's, and what follows from them. All else is the same for every shape.
+use Prim.Native.Nat.{ℕ, _+_, _-_, _*_, _/_}
+
+pub record Shape : Type 0 where
+  -- the bytes of a word
+  pub word : ℕ
+  -- how many classes of items there are
+  pub classes : ℕ
+  -- the items of a page of each class
+  pub perPage : ℕ → ℕ
+  -- the longest heap, and the largest size that can be asked for
+  pub most : ℕ
+  -- the magic number, as its eight bytes make one word
+  pub magic : ℕ
+
+-- document 01's heap
+abbrev pub wide : Shape
+wide = record { word = 8; classes = 32; perPage = λ c. 4096 / (8 * c + 16) + 1; most = 1048576; magic = 0x01636f6c6c617978 }
+
+-- document 02's hand unit
+abbrev pub hand : Shape
+hand = record { word = 4; classes = 16; perPage = λ c. 2; most = 65536; magic = 0x02636f6c6c617978 }
+
+-- the end of a heap of n bytes: n rounded down to a multiple of 8; and n rounded up to one
+abbrev pub endOf : ℕ → ℕ
+endOf n = n / 8 * 8
+
+abbrev pub up8 : ℕ → ℕ
+up8 n = (n + 7) / 8 * 8
+
+-- the class of a size
+abbrev pub classOf : ℕ → ℕ
+classOf n = (n - 1) / 8
+
+module _ (S : Shape) where
+  -- where the index page begins
+  abbrev pub index : ℕ
+  index = 8 + 5 * S .word
+
+  -- the first byte of the data area: after the index page and its block's tags
+  abbrev pub start : ℕ
+  start = index + S .word * S .classes + S .word
+
+  -- where the header names the first free block
+  abbrev pub firstFreeAt : ℕ
+  firstFreeAt = 8 + 2 * S .word
+
+  -- what a block's two tags take
+  abbrev pub tags : ℕ
+  tags = 2 * S .word
+
+  -- the least free block, and the least remainder that stays free
+  abbrev pub least : ℕ
+  least = 4 * S .word
+
+  -- the largest item's payload: a size above it has a block of its own
+  abbrev pub largest : ℕ
+  largest = 8 * S .classes
+
+  -- what a block for a size needs, and the least of these
+  abbrev pub needOf : ℕ → ℕ
+  needOf n = up8 n + tags
+
+  abbrev pub leastTaken : ℕ
+  leastTaken = largest + 8 + tags
+
+  -- what an item of class c takes, with its header word; what it holds; and what a page of them needs
+  abbrev pub item : ℕ → ℕ
+  item c = 8 * c + 8 + S .word
+
+  abbrev pub holds : ℕ → ℕ
+  holds c = 8 * c + 8
+
+  abbrev pub pageNeed : ℕ → ℕ
+  pageNeed c = tags + S .perPage c * item c
+
+  -- three ways of counting a place: the address of the payload behind the tag or header at position p, and back
+  abbrev pub addressOf : ℕ → ℕ
+  addressOf p = p + S .word
+
+  abbrev pub positionOf : ℕ → ℕ
+  positionOf a = a - S .word
+
+  -- the item offset of the item whose header is at position p, and back
+  abbrev pub offsetOf : ℕ → ℕ
+  offsetOf p = p - index
+
+  abbrev pub itemAt : ℕ → ℕ
+  itemAt o = index + o

@@ -1,0 +1,127 @@
+-- Laws of maps of bits.
+use Prim.Native.Nat.{ℕ, zero, suc, _+_, _-_, _*_, _/_, _%_, _^_, _<_, _≤_}
+use mathlib.Core.Path.{_≡_, refl, sym, ap, _∙_}
+use mathlib.Core.List.{List, [], _∷_}
+use native.Mathlib.Omega.{arith}
+use lib.ListN.{length, getD, set, replicate}
+use lib.Seq.{getD-set-same, getD-set-other}
+use lib.Pow.{shr-shr, shl-exact}
+use lib.Dec.{eqb}
+use borrow.Author.Tests.{eqb-true, eqb-false}
+use mathlib.Core.Bool.{Bool, true, false}
+use native.Mathlib.Nat
+use native.Mathlib.Numerals.{one-add}
+use Rattle.words.specs.Bits.{bitOf, bitAt, marked, unmarked}
+
+-- the same bit, by steps: what the laws below go by
+bits : ℕ → ℕ → ℕ
+bits x zero = x % 2
+bits x (suc b) = bits (x / 2) b
+
+bits-is : (b x : ℕ) → bits x b ≡ bitOf x b
+unfolding bits
+bits-is zero x = omega arith
+bits-is (suc b) x = bits-is b (x / 2) ∙ ap (λ (n : ℕ). n % 2) (shr-shr x 1 b ∙ ap (λ (n : ℕ). x / 2 ^ n) (one-add b))
+
+-- adding 2 ^ b to a number whose bit b is clear sets that bit, keeps the others, and stays below the width
+add-same : (b x : ℕ) → bits x b ≡ 0 → bits (x + 2 ^ b) b ≡ 1
+unfolding bits
+add-same zero x e = omega arith
+add-same (suc b) x e =
+    let d : (x + 2 ^ suc b) / 2 ≡ x / 2 + 2 ^ b = omega arith in
+    rw d (add-same b (x / 2) e)
+
+add-other : (b j x : ℕ) → bits x b ≡ 0 → (j ≡ b → ⊥) → bits (x + 2 ^ b) j ≡ bits x j
+unfolding bits
+add-other zero zero x e n = absurd (n refl)
+add-other zero (suc j) x e n =
+    let d : (x + 2 ^ 0) / 2 ≡ x / 2 = omega arith in
+    rw d
+add-other (suc b) zero x e n = omega arith
+add-other (suc b) (suc j) x e n =
+    let d : (x + 2 ^ suc b) / 2 ≡ x / 2 + 2 ^ b = omega arith in
+    rw d (add-other b j (x / 2) e (λ q. n (ap suc q)))
+
+add-fits : (b w x : ℕ) → bits x b ≡ 0 → b < w → x < 2 ^ w → x + 2 ^ b < 2 ^ w
+unfolding bits
+add-fits b zero x e l f = absurd (omega arith)
+add-fits zero (suc w) x e l f = omega arith
+add-fits (suc b) (suc w) x e l f = omega (arith, add-fits b w (x / 2) e (omega arith) (omega arith))
+
+-- a number whose bit b is set is at least 2 ^ b, and without it has that bit clear
+sub-fits : (b x : ℕ) → bits x b ≡ 1 → 2 ^ b ≤ x
+unfolding bits
+sub-fits zero x e = omega arith
+sub-fits (suc b) x e = omega (arith, sub-fits b (x / 2) e)
+
+sub-same : (b x : ℕ) → bits x b ≡ 1 → bits (x - 2 ^ b) b ≡ 0
+unfolding bits
+sub-same zero x e = omega arith
+sub-same (suc b) x e =
+    let l : 2 ^ b ≤ x / 2 = sub-fits b (x / 2) e in
+    let d : (x - 2 ^ suc b) / 2 ≡ x / 2 - 2 ^ b = omega arith in
+    rw d (sub-same b (x / 2) e)
+
+sub-other : (b j x : ℕ) → bits x b ≡ 1 → (j ≡ b → ⊥) → bits (x - 2 ^ b) j ≡ bits x j
+sub-other b j x e n =
+    let l : 2 ^ b ≤ x = sub-fits b x e in
+    let k : x - 2 ^ b + 2 ^ b ≡ x = omega arith in
+    sym (add-other b j (x - 2 ^ b) (sub-same b x e) n) ∙ ap (λ (y : ℕ). bits y j) k
+
+-- what a shift of 1 gives
+pub one-shifted : (b : ℕ) → b < 64 → (1 * 2 ^ b) % 18446744073709551616 ≡ 2 ^ b
+one-shifted b l = shl-exact 1 b 64 (omega arith) (omega arith) ∙ omega arith
+
+module _ (m : List ℕ) (i : ℕ) (within : i / 64 < length m) where
+  -- a store of v in the word of bit i, read at j: where v has the bits of that word but for bit i
+  stored : (v : ℕ) → ((b : ℕ) → (b ≡ i % 64 → ⊥) → bits v b ≡ bits (getD m (i / 64) 0) b) → (j : ℕ) → (j ≡ i → ⊥) → bitAt (set m (i / 64) v) j ≡ bitAt m j
+  unfolding bitAt
+  stored v f j n = go (eqb (j / 64) (i / 64)) refl
+    where
+      go : (t : Bool) → eqb (j / 64) (i / 64) ≡ t → bitAt (set m (i / 64) v) j ≡ bitAt m j
+      go true t =
+          let e : j / 64 ≡ i / 64 = eqb-true (j / 64) (i / 64) t in
+          rw (e, getD-set-same m (i / 64) v 0) (sym (bits-is (j % 64) v) ∙ f (j % 64) (λ q. n (omega arith)) ∙ bits-is (j % 64) (getD m (i / 64) 0))
+      go false t = ap (λ (x : ℕ). bitOf x (j % 64)) (getD-set-other m (i / 64) (j / 64) v 0 (eqb-false (j / 64) (i / 64) t))
+
+  pub marked-same : bitAt m i ≡ 0 → bitAt (marked m i) i ≡ 1
+  unfolding bitAt marked
+  marked-same e =
+      rw (getD-set-same m (i / 64) (getD m (i / 64) 0 + 2 ^ (i % 64)) 0)
+      (sym (bits-is (i % 64) _) ∙ add-same (i % 64) _ (bits-is (i % 64) _ ∙ e))
+
+  pub marked-other : bitAt m i ≡ 0 → (j : ℕ) → (j ≡ i → ⊥) → bitAt (marked m i) j ≡ bitAt m j
+  unfolding bitAt marked
+  marked-other e = stored _ (λ b. add-other (i % 64) b _ (bits-is (i % 64) _ ∙ e))
+
+  pub unmarked-same : bitAt m i ≡ 1 → bitAt (unmarked m i) i ≡ 0
+  unfolding bitAt unmarked
+  unmarked-same e =
+      rw (getD-set-same m (i / 64) (getD m (i / 64) 0 - 2 ^ (i % 64)) 0)
+      (sym (bits-is (i % 64) _) ∙ sub-same (i % 64) _ (bits-is (i % 64) _ ∙ e))
+
+  pub unmarked-other : bitAt m i ≡ 1 → (j : ℕ) → (j ≡ i → ⊥) → bitAt (unmarked m i) j ≡ bitAt m j
+  unfolding bitAt unmarked
+  unmarked-other e = stored _ (λ b. sub-other (i % 64) b _ (bits-is (i % 64) _ ∙ e))
+
+-- what the code asks: the sum fits, the difference does not go below 0
+pub mark-fits : (m : List ℕ) (i : ℕ) → bitAt m i ≡ 0 → getD m (i / 64) 0 < 2 ^ 64 → getD m (i / 64) 0 + 2 ^ (i % 64) < 2 ^ 64
+unfolding bitAt
+mark-fits m i e f = add-fits (i % 64) 64 _ (bits-is (i % 64) _ ∙ e) (omega arith) f
+
+pub unmark-fits : (m : List ℕ) (i : ℕ) → bitAt m i ≡ 1 → 2 ^ (i % 64) ≤ getD m (i / 64) 0
+unfolding bitAt
+unmark-fits m i e = sub-fits (i % 64) _ (bits-is (i % 64) _ ∙ e)
+
+-- every bit of a map of zeros is clear
+pub zeros-clear : (n i : ℕ) → bitAt (replicate n 0) i ≡ 0
+unfolding bitAt
+zeros-clear n i = rw (zero-at n (i / 64)) (zero-div (i % 64))
+  where
+    zero-at : (n k : ℕ) → _≡_ {A = ℕ} (getD (replicate n 0) k 0) 0
+    zero-at zero k = refl
+    zero-at (suc n) zero = refl
+    zero-at (suc n) (suc k) = zero-at n k
+
+    zero-div : (b : ℕ) → 0 / 2 ^ b % 2 ≡ 0
+    zero-div b = rw Nat.zero-div

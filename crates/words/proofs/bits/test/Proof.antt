@@ -1,0 +1,26 @@
+use Rattle.words.specs.Bits.{bitAt}
+use borrow.Author.Needs.{needs}
+use Rattle.words.proofs.bits.test.Statement.{statement}
+use Rattle.words.proofs.bits.test.Tie as tie
+use Rattle.words.proofs.bits.test.Reads as reads
+use Rattle.words.proofs.bits.test.Lts as lts
+
+-- src/lib.rt:12:6
+mul-result : tie.Need-mul-result
+mul-result c = search needs
+
+-- src/lib.rt:12:6
+shared-slice-read-result : tie.Need-shared-slice-read-result
+shared-slice-read-result c = search needs
+
+-- src/lib.rt:12:6
+shr-result : tie.Need-shr-result
+shr-result c = search needs
+
+-- src/lib.rt:6:1
+returns : tie.Need-returns
+unfolding bitAt
+returns c = search needs
+
+pub test-spec : {M : Type 1} → statement M
+test-spec = tie.close (tie.spec mul-result shared-slice-read-result shr-result returns)

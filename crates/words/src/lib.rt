@@ -1,0 +1,70 @@
+// Words of 8 bytes in a slice of bytes, bytes copied within one, and maps of bits.
+pub mod bits;
+pub mod bytes;
+
+ghost use mathlib.Core.Path.{_≡_};
+ghost use Prim.Native.Nat.{_+_, _*_, _≤_};
+ghost use lib.ListN.{length};
+ghost use Rattle.words.specs.Word.{wordAt, put};
+
+// The number of eight bytes, the least first. Compiled, its caller is one load.
+fn join(b0: u8, b1: u8, b2: u8, b3: u8, b4: u8, b5: u8, b6: u8, b7: u8) -> usize
+    ensures { λ r. ⌜ r ≡ b0 + 256 * (b1 + 256 * (b2 + 256 * (b3 + 256 * (b4 + 256 * (b5 + 256 * (b6 + 256 * b7)))))) ⌝ }
+{
+    b0 as usize
+        + 256
+            * (b1 as usize
+                + 256
+                    * (b2 as usize
+                        + 256
+                            * (b3 as usize
+                                + 256
+                                    * (b4 as usize
+                                        + 256
+                                            * (b5 as usize
+                                                + 256 * (b6 as usize + 256 * (b7 as usize)))))))
+}
+
+// The word that begins at p.
+pub fn word(b: &[u8], p: usize) -> usize
+    requires { ⌜ p + 8 ≤ length (now b) ⌝ }
+    ensures { λ r. ⌜ r ≡ wordAt 8 (now (b .entry)) p ⌝ }
+{
+    let p1 = p + 1;
+    let p2 = p1 + 1;
+    let p3 = p2 + 1;
+    let p4 = p3 + 1;
+    let p5 = p4 + 1;
+    let p6 = p5 + 1;
+    let p7 = p6 + 1;
+    join(b[p], b[p1], b[p2], b[p3], b[p4], b[p5], b[p6], b[p7])
+}
+
+// The word v is written at p. Compiled, it is one store.
+pub fn put_word(b: &mut [u8], p: usize, v: usize)
+    requires { ⌜ p + 8 ≤ length (now b) ⌝ }
+    ensures { λ _. ⌜ now (b .exit) ≡ put 8 (now (b .entry)) p v ⌝ }
+{
+    let p1 = p + 1;
+    let p2 = p1 + 1;
+    let p3 = p2 + 1;
+    let p4 = p3 + 1;
+    let p5 = p4 + 1;
+    let p6 = p5 + 1;
+    let p7 = p6 + 1;
+    let v1 = v / 256;
+    let v2 = v1 / 256;
+    let v3 = v2 / 256;
+    let v4 = v3 / 256;
+    let v5 = v4 / 256;
+    let v6 = v5 / 256;
+    let v7 = v6 / 256;
+    b[p] = (v % 256) as u8;
+    b[p1] = (v1 % 256) as u8;
+    b[p2] = (v2 % 256) as u8;
+    b[p3] = (v3 % 256) as u8;
+    b[p4] = (v4 % 256) as u8;
+    b[p5] = (v5 % 256) as u8;
+    b[p6] = (v6 % 256) as u8;
+    b[p7] = (v7 % 256) as u8;
+}
