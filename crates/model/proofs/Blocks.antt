@@ -100,3 +100,16 @@ module _ (S : Shape) where
       rise-append (S .word) p (own S ls p prev (firstFree S (p + sizeOf S b) bs next) b) (p + sizeOf S b)
       (blockWords S ls (p + sizeOf S b) (ifFree b p prev) next bs) (ends S (p + sizeOf S b) bs)
       (rise-own ls p prev (firstFree S (p + sizeOf S b) bs next) b (h .0)) (rise-blocks ls (p + sizeOf S b) (ifFree b p prev) next bs (h .1))
+
+  -- the first and the last free block of some are no further than their end
+  pub first-below : (end p : ℕ) (bs : List Block) (next : ℕ) → ends S p bs ≤ end → next ≤ end → firstFree S p bs next ≤ end
+  unfolding firstFree ends
+  first-below end p [] next h k = k
+  first-below end p (free s ∷ bs) next h k = omega (arith, le-ends (p + sizeOf S (free s)) bs)
+  first-below end p (used u ∷ bs) next h k = first-below end (p + sizeOf S (used u)) bs next h k
+
+  pub last-below : (end p : ℕ) (bs : List Block) (prev : ℕ) → ends S p bs ≤ end → prev ≤ end → lastFree S p bs prev ≤ end
+  unfolding lastFree ends
+  last-below end p [] prev h k = k
+  last-below end p (free s ∷ bs) prev h k = last-below end (p + sizeOf S (free s)) bs p h (omega (arith, le-ends (p + sizeOf S (free s)) bs))
+  last-below end p (used u ∷ bs) prev h k = last-below end (p + sizeOf S (used u)) bs prev h k

@@ -14,8 +14,8 @@ use Rattle.words.proofs.WordLaws.{word-agree}
 use Rattle.model.specs.Picture.{draw}
 use Rattle.model.proofs.Pictures.{Rise, Fit, fit-append, rise-outside, draw-out, draw-shows, length-draw}
 use Rattle.model.specs.Shape.{Shape, start, index, offsetOf, tags, item, endOf}
-use Rattle.model.specs.Layout.{Slot, idle, held, Use, variable, page, Block, free, used, Layout, headOf, nextOf, useSize, sizeOf, ends, firstFree, header, slotWords, useWords, own, blockWords, headWords, fixedLow, fixedHigh, words}
-use Rattle.model.proofs.Blocks.{le-ends}
+use Rattle.model.specs.Layout.{Slot, idle, held, Use, variable, page, Block, free, used, Layout, headOf, nextOf, useSize, sizeOf, ends, header, slotWords, useWords, own, blockWords, headWords, fixedLow, fixedHigh, words}
+use Rattle.model.proofs.Blocks.{le-ends, first-below}
 use Rattle.model.specs.Sound.{times, Allowed, AllowedUse, AllAllowed, idleSlots, idleIn, idleItems, Valid, Here}
 use Rattle.model.proofs.Replace.{front, rise-front}
 
@@ -90,18 +90,12 @@ module _ (S : Shape) where
     fit-use p (page c k ss) a h =
         (omega arith, fit-append (S .word) (slotWords S c (getD (L .lists) c []) (p + S .word) ss) (record { at = p + useSize S (page c k ss) - S .word; is = useSize S (page c k ss) + 3 } ∷ []) (fit-slots c (p + S .word) ss (a .0)) (omega arith))
 
-    first-below : (p : ℕ) (bs : List Block) (next : ℕ) → ends S p bs ≤ end → next ≤ end → firstFree S p bs next ≤ end
-    unfolding firstFree ends
-    first-below p [] next h k = k
-    first-below p (free s ∷ bs) next h k = omega (arith, le-ends S (p + sizeOf S (free s)) bs)
-    first-below p (used u ∷ bs) next h k = first-below (p + sizeOf S (used u)) bs next h k
-
-    fit-blocks : (p prev next : ℕ) (bs : List Block) → AllAllowed S bs → ends S p bs ≤ end → prev ≤ end → next ≤ end → Fit (S .word) (blockWords S (L .lists) p prev next bs)
+    pub fit-blocks : (p prev next : ℕ) (bs : List Block) → AllAllowed S bs → ends S p bs ≤ end → prev ≤ end → next ≤ end → Fit (S .word) (blockWords S (L .lists) p prev next bs)
     unfolding blockWords ends own sizeOf AllAllowed Allowed Fit
     fit-blocks p prev next [] a h j k = tt
     fit-blocks p prev next (free s ∷ bs) a h j k =
         let e = le-ends S (p + s) bs in
-        (omega arith, (omega (arith, first-below (p + s) bs next h k), (omega arith, (omega arith, fit-blocks (p + s) p next bs (a .1) h (omega arith) k))))
+        (omega arith, (omega (arith, first-below S end (p + s) bs next h k), (omega arith, (omega arith, fit-blocks (p + s) p next bs (a .1) h (omega arith) k))))
     fit-blocks p prev next (used u ∷ bs) a h j k =
         fit-append (S .word) (useWords S (L .lists) p u) (blockWords S (L .lists) (p + useSize S u) prev next bs)
         (fit-use p u (a .0) (omega (arith, le-ends S (p + useSize S u) bs))) (fit-blocks (p + useSize S u) prev next bs (a .1) h j k)
@@ -120,7 +114,7 @@ module _ (S : Shape) where
           (
             omega arith,
             (
-              omega (arith, first-below (start S) (L .blocks) 0 (omega arith) (omega arith)),
+              omega (arith, first-below S end (start S) (L .blocks) 0 (omega arith) (omega arith)),
               (
                 omega arith,
                 (

@@ -9,7 +9,7 @@ use Rattle.model.specs.Shape.{wide, start, least, endOf}
 use Rattle.model.specs.Layout.{Layout, headOf, nextOf, useSize, sizeOf, ends, firstFree, header, slotWords, useWords, own, blockWords, headWords, fixedLow, fixedHigh, words}
 use Rattle.model.specs.Sound.{idleSlots}
 use Rattle.model.specs.Rules.{fit, before, inFront, cut, slotTo, useTo, itemTo, fromList, fromPage, anItem, aBlock, allocate, inSlots, findFrom, freed, shrunk, grown, reshaped, stays, fresh}
-use Rattle.model.specs.Reading.{total, greatest, heldIn, freeSize, aFreeOne, aVariableOne, ofPage, counted}
+use Rattle.model.specs.Reading.{total, greatest, heldIn, ofBlock, counted}
 use Rattle.model.specs.Promises.{Call, allocating, freeing, resizing}
 use Rattle.model.proofs.OnLayouts.{doing}
 
@@ -96,5 +96,5 @@ expected =
     ∷ []
 
 figures : computed ≡ expected
-unfolding computed expected wordIn word gives says after freshOf H A B C D R P doing headOf nextOf useSize sizeOf ends firstFree header slotWords useWords own blockWords headWords fixedLow fixedHigh words idleSlots fit before inFront cut slotTo useTo itemTo fromList fromPage anItem aBlock allocate inSlots findFrom freed shrunk grown reshaped stays total greatest heldIn freeSize aFreeOne aVariableOne ofPage counted
+unfolding computed expected wordIn word gives says after freshOf H A B C D R P doing headOf nextOf useSize sizeOf ends firstFree header slotWords useWords own blockWords headWords fixedLow fixedHigh words idleSlots fit before inFront cut slotTo useTo itemTo fromList fromPage anItem aBlock allocate inSlots findFrom freed shrunk grown reshaped stays total greatest heldIn ofBlock counted
 figures = refl

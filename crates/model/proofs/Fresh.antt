@@ -1,12 +1,12 @@
 -- A fresh heap: its layout is valid, so there are sound heaps.
 use Prim.Native.Nat.{ℕ, _+_, _-_, _%_, _≤_}
-use mathlib.Core.Path.{_≡_, refl, ap, subst}
+use mathlib.Core.Path.{_≡_, ap}
 use mathlib.Core.List.{List, []}
 use native.Mathlib.Omega.{arith}
 use lib.ListN.{length, length-replicate, getD-replicate}
 use Rattle.words.specs.Word.{wordAt}
 use Rattle.model.specs.Picture.{draw}
-use Rattle.model.specs.Shape.{Shape, wide, hand, start, least, endOf}
+use Rattle.model.specs.Shape.{Shape, wide, start, least, endOf}
 use Rattle.model.specs.Layout.{sizeOf, ends, words}
 use Rattle.model.specs.Rules.{fresh}
 use Rattle.model.specs.Sound.{times, Allowed, AllAllowed, Apart, idleIn, idleItems, Valid, Here}
@@ -26,10 +26,3 @@ fresh-valid S end h m =
 -- Initialise
 pub fresh-here : (b : List ℕ) → wordAt 8 b 0 ≡ wide .magic → 344 ≤ length b → length b ≤ 1048576 → Here wide (draw 8 (words wide (endOf (length b)) (fresh wide (endOf (length b)))) b) (fresh wide (endOf (length b)))
 fresh-here b m h k = drawn-here wide b (fresh wide (endOf (length b))) m (fresh-valid wide (endOf (length b)) (omega arith) (omega arith)) (omega arith)
-
--- the same laws at the hand unit's words of 4 bytes
-pub hand-here : (b : List ℕ) → wordAt 8 b 0 ≡ hand .magic → length b ≡ 1000 → Here hand (draw 4 (words hand 1000 (fresh hand 1000)) b) (fresh hand 1000)
-hand-here b m e =
-    let z : endOf (length b) ≡ 1000 = rw e refl in
-    subst (λ (x : ℕ). Here hand (draw 4 (words hand x (fresh hand x)) b) (fresh hand x)) z
-    (drawn-here hand b (fresh hand (endOf (length b))) m (fresh-valid hand (endOf (length b)) (omega arith) (omega arith)) (omega arith))

@@ -6,7 +6,7 @@ pub mod Links
 pub mod Replace
 pub mod Drawn
 pub mod Valid
-pub mod Joined
+pub mod Remade
 pub mod Fresh
 pub mod Payloads
 pub mod OnLayouts

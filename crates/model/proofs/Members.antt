@@ -1,5 +1,4 @@
 -- Laws of what stands in a list.
-use mathlib.Core.Path.{_≡_}
 use mathlib.Core.Logic.{_⊎_, inl, inr, ⊎-elim}
 use mathlib.Core.List.{List, [], _∷_, _++_}
 use Rattle.model.specs.Live.{_∈_, InTurn}

@@ -1,19 +1,19 @@
 -- Live payloads lie in their blocks, apart, and hold no word of the picture: a drawing of their layout keeps their bytes.
-use Prim.Native.Nat.{ℕ, _+_, _-_, _*_, _≤_, _<_}
+use Prim.Native.Nat.{ℕ, _+_, _-_, _*_, _≤_}
 use mathlib.Core.Path.{_≡_, ap}
 use mathlib.Core.List.{List, [], _∷_, _++_}
-use mathlib.Core.Logic.{_⊎_, inl, inr, ⊎-elim}
+use mathlib.Core.Logic.{inl, inr, ⊎-elim}
 use native.Mathlib.Omega.{arith}
 use lib.ListN.{length, getD}
 use Rattle.words.proofs.CopyLaws.{part-agree}
-use Rattle.model.specs.Shape.{Shape, start, firstFreeAt, tags, item}
+use Rattle.model.specs.Shape.{Shape, start, firstFreeAt, item}
 use Rattle.model.specs.Picture.{Word, draw}
 use Rattle.model.specs.Layout.{Slot, idle, held, Use, variable, page, Block, free, used, Layout, useSize, sizeOf, ends, firstFree, slotWords, useWords, own, blockWords, fixedLow, fixedHigh, words}
 use Rattle.model.specs.Sound.{Allowed, AllowedUse, AllAllowed, Valid}
 use Rattle.model.specs.Live.{_∈_, InTurn, Payload, content, slotsLive, useLive, liveFrom, live}
 use Rattle.model.specs.Promises.{NoOverlap, InArea, NoWordInside}
 use Rattle.model.proofs.Members.{in-either, turn-either}
-use Rattle.model.proofs.Pictures.{Outside, Clear, rise-clear, clear-append, clear-word, clear-outside, draw-out, length-draw}
+use Rattle.model.proofs.Pictures.{Clear, rise-clear, clear-append, clear-word, clear-outside, draw-out, length-draw}
 use Rattle.model.proofs.Blocks.{le-ends, rise-slots, rise-own, rise-blocks}
 use Rattle.model.proofs.Replace.{rise-low, rise-high}
 

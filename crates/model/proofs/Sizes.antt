@@ -1,5 +1,5 @@
 -- Laws of the sizes of document 01's items and pages.
-use Prim.Native.Nat.{ℕ, _+_, _*_, _/_, _≤_, _<_}
+use Prim.Native.Nat.{ℕ, _+_, _*_, _≤_}
 use mathlib.Core.Path.{_≡_, refl}
 use native.Mathlib.Nat.{div-le-self, div-mul-le-self}
 use native.Mathlib.Omega.{arith}

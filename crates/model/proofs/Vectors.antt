@@ -9,7 +9,7 @@ use Rattle.model.specs.Layout.{Layout, headOf, nextOf, useSize, sizeOf, 
 use Rattle.model.specs.Sound.{idleSlots}
 use Rattle.model.specs.Rules.{fit, before, inFront, cut, slotTo, useTo, itemTo, fromList, fromPage, anItem, aBlock, allocate, inSlots, findFrom, freed, shrunk, grown, reshaped, stays, fresh}
 use Rattle.model.specs.Live.{Payload, slotsLive, useLive, liveFrom, live}
-use Rattle.model.specs.Reading.{Kind, aFree, aVariable, aPage, theEnd, Statistics, total, greatest, heldIn, freeSize, aFreeOne, aVariableOne, ofPage, counted, row, rowsFrom, table, kindOf, stepFrom, step}
+use Rattle.model.specs.Reading.{Kind, aFree, aVariable, aPage, theEnd, Statistics, total, greatest, heldIn, ofBlock, counted, row, rowsFrom, table, kindOf, stepFrom, step}
 use Rattle.model.specs.Promises.{Call, allocating, freeing, resizing}
 use Rattle.model.proofs.OnLayouts.{doing}
 
@@ -488,5 +488,5 @@ written =
     ∷ []
 
 outside-runs : told trials ≡ written
-unfolding told trials written answers flat doing six joined kindNumbers stepped payloads total greatest heldIn freeSize aFreeOne aVariableOne ofPage counted row rowsFrom kindOf stepFrom slotsLive useLive liveFrom headOf nextOf useSize sizeOf ends firstFree header slotWords useWords own blockWords headWords fixedLow fixedHigh words idleSlots fit before inFront cut slotTo useTo itemTo fromList fromPage anItem aBlock allocate inSlots findFrom freed shrunk grown reshaped stays
+unfolding told trials written answers flat doing six joined kindNumbers stepped payloads total greatest heldIn ofBlock counted row rowsFrom kindOf stepFrom slotsLive useLive liveFrom headOf nextOf useSize sizeOf ends firstFree header slotWords useWords own blockWords headWords fixedLow fixedHigh words idleSlots fit before inFront cut slotTo useTo itemTo fromList fromPage anItem aBlock allocate inSlots findFrom freed shrunk grown reshaped stays
 outside-runs = refl

@@ -37,24 +37,17 @@ heldIn [] = 0
 heldIn (idle ∷ ss) = heldIn ss
 heldIn (held ∷ ss) = suc (heldIn ss)
 
--- what a block counts for: its size if it is free; 1 if it is free; 1 if it is variable
-unfoldable pub freeSize : Block → ℕ
-freeSize (free s) = s
-freeSize (used u) = 0
+-- a number of a block: f of a free one's size, v of a variable one, g of a page's class and items
+unfoldable pub ofBlock : (ℕ → ℕ) → ℕ → (ℕ → List Slot → ℕ) → Block → ℕ
+ofBlock f v g (free s) = f s
+ofBlock f v g (used (variable s)) = v
+ofBlock f v g (used (page c k ss)) = g c ss
 
-unfoldable pub aFreeOne : Block → ℕ
-aFreeOne b = ifFree b 1 0
+abbrev pub ofFree : (ℕ → ℕ) → Block → ℕ
+ofFree f = ofBlock f 0 (λ c ss. 0)
 
-unfoldable pub aVariableOne : Block → ℕ
-aVariableOne (free s) = 0
-aVariableOne (used (variable s)) = 1
-aVariableOne (used (page c k ss)) = 0
-
--- of a page: what f makes of its class and its items; of any other block 0
-unfoldable pub ofPage : (ℕ → List Slot → ℕ) → Block → ℕ
-ofPage f (free s) = 0
-ofPage f (used (variable s)) = 0
-ofPage f (used (page c k ss)) = f c ss
+abbrev pub ofPage : (ℕ → List Slot → ℕ) → Block → ℕ
+ofPage g = ofBlock (λ s. 0) 0 g
 
 pub record Statistics : Type 0 where
   pub freeBytes : ℕ
@@ -67,10 +60,10 @@ pub record Statistics : Type 0 where
 unfoldable pub counted : List Block → Statistics
 counted bs =
     record {
-      freeBytes = total freeSize bs;
-      freeBlocks = total aFreeOne bs;
-      largestFree = greatest freeSize bs;
-      variables = total aVariableOne bs;
+      freeBytes = total (ofFree (λ s. s)) bs;
+      freeBlocks = total (ofFree (λ s. 1)) bs;
+      largestFree = greatest (ofFree (λ s. s)) bs;
+      variables = total (ofBlock (λ s. 0) 1 (λ c ss. 0)) bs;
       pages = total (ofPage (λ c ss. 1)) bs;
       items = total (ofPage (λ c ss. heldIn ss)) bs;
     }

@@ -17,10 +17,6 @@ pub record Shape : Type 0 where
 abbrev pub wide : Shape
 wide = record { word = 8; classes = 32; perPage = λ c. 4096 / (8 * c + 16) + 1; most = 1048576; magic = 0x01636f6c6c617978 }
 
--- document 02's hand unit
-abbrev pub hand : Shape
-hand = record { word = 4; classes = 16; perPage = λ c. 2; most = 65536; magic = 0x02636f6c6c617978 }
-
 -- the end of a heap of n bytes: n rounded down to a multiple of 8; and n rounded up to one
 abbrev pub endOf : ℕ → ℕ
 endOf n = n / 8 * 8
