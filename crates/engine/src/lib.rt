@@ -1,2 +1,3 @@
 // What a call does once the heap is known to be as it must be.
 pub mod fresh;
+pub mod links;

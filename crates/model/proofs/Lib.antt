@@ -9,6 +9,16 @@ pub mod Valid
 pub mod Remade
 pub mod Fresh
 pub mod Payloads
+pub mod Shown
+pub mod Change
+pub mod Items
+pub mod ItemLaws
+pub mod ItemValid
+pub mod Pop
+pub mod PopReads
+pub mod Push
+pub mod FreeWalk
+pub mod Middle
 pub mod OnLayouts
 pub mod Figures
 pub mod Vectors

@@ -19,14 +19,13 @@ use Rattle.model.proofs.Valid.{replaced-valid, apart-down}
 module _ (S : Shape) (end : ℕ) (ls : List (List ℕ)) (pre old mid post : List Block) (p q prev next : ℕ) where
   -- THE LAW, for any old and new blocks of the same extent
   pub remade : (b : List ℕ) → Bytes b → end ≤ length b → 16 * end + 4 * S .classes + 64 * S .word + 64 < 256 ^ S .word
-      → Valid S end (three S ls pre old post) → Valid S end (three S ls pre mid post) → Places S pre old post p q prev next → ends S p mid ≡ q
+      → AllAllowed S old → Valid S end (three S ls pre mid post) → Places S pre old post p q prev next → ends S p mid ≡ q
       → Shows (S .word) b (words S end (three S ls pre old post))
       → draw (S .word) (changes S pre mid post p q prev next (blockWords S ls p prev next mid)) b ≡ draw (S .word) (words S end (three S ls pre mid post)) b
-  remade b bytes inside room was will at f shown =
+  remade b bytes inside room aold will at f shown =
       let ms = blockWords S ls p prev next mid in
       let apre = allowed-left S pre (mid ++ post) (will .allowed) in
       let amid = allowed-left S mid post (allowed-right S pre (mid ++ post) (will .allowed)) in
-      let aold = allowed-left S old post (allowed-right S pre (old ++ post) (was .allowed)) in
       let apost = allowed-right S mid post (allowed-right S pre (mid ++ post) (will .allowed)) in
       let e : ends S q post ≡ end =
       ap (λ (x : ℕ). ends S x post) (sym f) ∙ sym (ends-append S p mid post) ∙ ap (λ (x : ℕ). ends S x (mid ++ post)) (sym (at .begins)) ∙ sym (ends-append S (start S) pre (mid ++ post)) ∙ will .fills in

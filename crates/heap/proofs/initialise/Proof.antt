@@ -8,35 +8,27 @@ use Rattle.heap.proofs.initialise.Lts as lts
 use Rattle.engine.proofs.fresh.lay.Reads as lay-reads
 use Rattle.words.proofs.word.Reads as word-reads
 
--- src/lib.rt:49:9
 returns : tie.Need-returns
 returns c = opens-not-lent _ (λ l. omega arith)
 
--- src/lib.rt:52:9
 returns-2 : tie.Need-returns-2
 returns-2 c = opens-not-lent _ (λ l. omega arith)
 
--- src/lib.rt:54:8
 word-requires : tie.Need-word-requires
 word-requires c κs = search needs
 
--- src/lib.rt:55:9
 same-length : tie.Need-same-length
 same-length c = search needs
 
--- src/lib.rt:55:9
 returns-3 : tie.Need-returns-3
 returns-3 c = opens-again _ (omega arith) _ (c .before .word .ensures) (c .if3 .taken)
 
--- src/lib.rt:57:5
 lay-requires : tie.Need-lay-requires
 lay-requires c κs = search needs
 
--- src/lib.rt:45:1
 same-length-2 : tie.Need-same-length-2
 same-length-2 c = search needs
 
--- src/lib.rt:45:1
 returns-4 : tie.Need-returns-4
 returns-4 c = opens-fresh _ (omega arith) _ (c .before .before .before .before .before .word .ensures) (c .before .before .before .before .if3 .left) _ (c .before .before .lay .ensures)
 

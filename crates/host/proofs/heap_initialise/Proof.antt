@@ -7,19 +7,15 @@ use Rattle.host.proofs.heap_initialise.Lts as lts
 use Rattle.heap.proofs.initialise.Reads as initialise-reads
 use Rattle.host.proofs.number.Reads as number-reads
 
--- src/lib.rt:25:12
 initialise-requires : tie.Need-initialise-requires
 initialise-requires c κs = search needs
 
--- src/lib.rt:25:5
 number-requires : tie.Need-number-requires
 number-requires c κs = search needs
 
--- src/lib.rt:21:1
 same-length : tie.Need-same-length
 same-length c = search needs
 
--- src/lib.rt:21:1
 returns : tie.Need-returns
 returns c = told _ (c .before .before .before .initialise .result) _ _ (c .before .before .before .initialise .ensures) (c .number .ensures)
 

@@ -6,27 +6,21 @@ use Rattle.host.proofs.number.Reads as reads
 use Rattle.host.proofs.number.Lts as lts
 use Rattle.heap.proofs.refusal_number.Reads as refusal-number-reads
 
--- src/lib.rt:16:25
 enum-known-r : tie.Need-enum-known-r
 enum-known-r c = search needs
 
--- src/lib.rt:17:25
 enum-known-r-2 : tie.Need-enum-known-r-2
 enum-known-r-2 c = search needs
 
--- src/lib.rt:17:31
 refusal-number-requires : tie.Need-refusal-number-requires
 refusal-number-requires c κs = search needs
 
--- src/lib.rt:17:31
 mul-result : tie.Need-mul-result
 mul-result c = search needs
 
--- src/lib.rt:12:1
 returns : tie.Need-returns
 returns c = number-granted _ _ (c .before .r .given .1)
 
--- src/lib.rt:12:1
 returns-2 : tie.Need-returns-2
 returns-2 c = number-refused _ _ _ (c .before .before .r2 .given .1) (c .refusal-number .ensures .0)
 

@@ -6,23 +6,18 @@ use Rattle.model.proofs.items_in_page.Tie as tie
 use Rattle.model.proofs.items_in_page.Reads as reads
 use Rattle.model.proofs.items_in_page.Lts as lts
 
--- src/lib.rt:80:13
 mul-result : tie.Need-mul-result
 mul-result c = search needs
 
--- src/lib.rt:80:13
 add-result : tie.Need-add-result
 add-result c = search needs
 
--- src/lib.rt:80:5
 div-result : tie.Need-div-result
 div-result c = search needs
 
--- src/lib.rt:80:5
 add-result-2 : tie.Need-add-result-2
 add-result-2 c = omega (arith, per-page-bound (c .args .c))
 
--- src/lib.rt:76:1
 returns : tie.Need-returns
 returns c = search needs
 

@@ -8,23 +8,18 @@ use Rattle.model.proofs.page_need.Lts as lts
 use Rattle.model.proofs.item_size.Reads as item-size-reads
 use Rattle.model.proofs.items_in_page.Reads as items-in-page-reads
 
--- src/lib.rt:96:10
 items-in-page-requires : tie.Need-items-in-page-requires
 items-in-page-requires c κs = search needs
 
--- src/lib.rt:96:29
 item-size-requires : tie.Need-item-size-requires
 item-size-requires c κs = search needs
 
--- src/lib.rt:96:10
 mul-result : tie.Need-mul-result
 mul-result c = omega (arith, page-product (c .before .before .args .c) _ _ (c .before .items-in-page .ensures) (c .item-size .ensures))
 
--- src/lib.rt:96:5
 add-result : tie.Need-add-result
 add-result c = omega (arith, page-product (c .before .before .args .c) _ _ (c .before .items-in-page .ensures) (c .item-size .ensures))
 
--- src/lib.rt:92:1
 returns : tie.Need-returns
 returns c = page-product (c .before .before .args .c) _ _ (c .before .items-in-page .ensures) (c .item-size .ensures) .1
 

@@ -7,103 +7,78 @@ use Rattle.words.proofs.put_word.Tie as tie
 use Rattle.words.proofs.put_word.Reads as reads
 use Rattle.words.proofs.put_word.Lts as lts
 
--- src/lib.rt:36:14
 add-p1 : tie.Need-add-p1
 add-p1 c = search needs
 
--- src/lib.rt:37:14
 add-p2 : tie.Need-add-p2
 add-p2 c = search needs
 
--- src/lib.rt:38:14
 add-p3 : tie.Need-add-p3
 add-p3 c = search needs
 
--- src/lib.rt:39:14
 add-p4 : tie.Need-add-p4
 add-p4 c = search needs
 
--- src/lib.rt:40:14
 add-p5 : tie.Need-add-p5
 add-p5 c = search needs
 
--- src/lib.rt:41:14
 add-p6 : tie.Need-add-p6
 add-p6 c = search needs
 
--- src/lib.rt:42:14
 add-p7 : tie.Need-add-p7
 add-p7 c = search needs
 
--- src/lib.rt:50:12
 cast-b : tie.Need-cast-b
 cast-b c = search needs
 
--- src/lib.rt:50:5
 slice-write-b : tie.Need-slice-write-b
 slice-write-b c = search needs
 
--- src/lib.rt:51:13
 cast-b-2 : tie.Need-cast-b-2
 cast-b-2 c = search needs
 
--- src/lib.rt:51:5
 slice-write-b-2 : tie.Need-slice-write-b-2
 slice-write-b-2 c = simp length-set (omega arith)
 
--- src/lib.rt:52:13
 cast-b-3 : tie.Need-cast-b-3
 cast-b-3 c = search needs
 
--- src/lib.rt:52:5
 slice-write-b-3 : tie.Need-slice-write-b-3
 slice-write-b-3 c = simp length-set (omega arith)
 
--- src/lib.rt:53:13
 cast-b-4 : tie.Need-cast-b-4
 cast-b-4 c = search needs
 
--- src/lib.rt:53:5
 slice-write-b-4 : tie.Need-slice-write-b-4
 slice-write-b-4 c = simp length-set (omega arith)
 
--- src/lib.rt:54:13
 cast-b-5 : tie.Need-cast-b-5
 cast-b-5 c = search needs
 
--- src/lib.rt:54:5
 slice-write-b-5 : tie.Need-slice-write-b-5
 slice-write-b-5 c = simp length-set (omega arith)
 
--- src/lib.rt:55:13
 cast-b-6 : tie.Need-cast-b-6
 cast-b-6 c = search needs
 
--- src/lib.rt:55:5
 slice-write-b-6 : tie.Need-slice-write-b-6
 slice-write-b-6 c = simp length-set (omega arith)
 
--- src/lib.rt:56:13
 cast-b-7 : tie.Need-cast-b-7
 cast-b-7 c = search needs
 
--- src/lib.rt:56:5
 slice-write-b-7 : tie.Need-slice-write-b-7
 slice-write-b-7 c = simp length-set (omega arith)
 
--- src/lib.rt:57:13
 cast-b-8 : tie.Need-cast-b-8
 cast-b-8 c = search needs
 
--- src/lib.rt:57:5
 slice-write-b-8 : tie.Need-slice-write-b-8
 slice-write-b-8 c = simp length-set (omega arith)
 
--- src/lib.rt:32:1
 same-length : tie.Need-same-length
 same-length c = simp length-set
 
--- src/lib.rt:32:1
 returns : tie.Need-returns
 unfolding put
 returns c = search needs

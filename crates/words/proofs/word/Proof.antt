@@ -6,71 +6,54 @@ use Rattle.words.proofs.word.Reads as reads
 use Rattle.words.proofs.word.Lts as lts
 use Rattle.words.proofs.join.Reads as join-reads
 
--- src/lib.rt:21:14
 add-p1 : tie.Need-add-p1
 add-p1 c = search needs
 
--- src/lib.rt:22:14
 add-p2 : tie.Need-add-p2
 add-p2 c = search needs
 
--- src/lib.rt:23:14
 add-p3 : tie.Need-add-p3
 add-p3 c = search needs
 
--- src/lib.rt:24:14
 add-p4 : tie.Need-add-p4
 add-p4 c = search needs
 
--- src/lib.rt:25:14
 add-p5 : tie.Need-add-p5
 add-p5 c = search needs
 
--- src/lib.rt:26:14
 add-p6 : tie.Need-add-p6
 add-p6 c = search needs
 
--- src/lib.rt:27:14
 add-p7 : tie.Need-add-p7
 add-p7 c = search needs
 
--- src/lib.rt:28:10
 shared-slice-read-join : tie.Need-shared-slice-read-join
 shared-slice-read-join c = search needs
 
--- src/lib.rt:28:16
 shared-slice-read-join-2 : tie.Need-shared-slice-read-join-2
 shared-slice-read-join-2 c = search needs
 
--- src/lib.rt:28:23
 shared-slice-read-join-3 : tie.Need-shared-slice-read-join-3
 shared-slice-read-join-3 c = search needs
 
--- src/lib.rt:28:30
 shared-slice-read-join-4 : tie.Need-shared-slice-read-join-4
 shared-slice-read-join-4 c = search needs
 
--- src/lib.rt:28:37
 shared-slice-read-join-5 : tie.Need-shared-slice-read-join-5
 shared-slice-read-join-5 c = search needs
 
--- src/lib.rt:28:44
 shared-slice-read-join-6 : tie.Need-shared-slice-read-join-6
 shared-slice-read-join-6 c = search needs
 
--- src/lib.rt:28:51
 shared-slice-read-join-7 : tie.Need-shared-slice-read-join-7
 shared-slice-read-join-7 c = search needs
 
--- src/lib.rt:28:58
 shared-slice-read-join-8 : tie.Need-shared-slice-read-join-8
 shared-slice-read-join-8 c = search needs
 
--- src/lib.rt:28:5
 join-requires : tie.Need-join-requires
 join-requires c κs = search needs
 
--- src/lib.rt:17:1
 returns : tie.Need-returns
 unfolding wordAt
 returns c = search needs

@@ -9,27 +9,21 @@ use Rattle.engine.proofs.fresh.write_block.Reads as write-block-reads
 use Rattle.engine.proofs.fresh.write_header.Reads as write-header-reads
 use Rattle.engine.proofs.fresh.write_heads.Reads as write-heads-reads
 
--- src/fresh.rt:59:15
 mul-end : tie.Need-mul-end
 mul-end c = search needs
 
--- src/fresh.rt:60:5
 write-header-requires : tie.Need-write-header-requires
 write-header-requires c κs = search needs
 
--- src/fresh.rt:61:5
 write-heads-requires : tie.Need-write-heads-requires
 write-heads-requires c κs = search needs
 
--- src/fresh.rt:62:5
 write-block-requires : tie.Need-write-block-requires
 write-block-requires c κs = search needs
 
--- src/fresh.rt:55:1
 same-length : tie.Need-same-length
 same-length c = search needs
 
--- src/fresh.rt:55:1
 returns : tie.Need-returns
 returns c = fresh-drawn _ _ _ _ _ refl (c .before .before .before .before .before .before .before .before .before .before .before .before .before .pre .0) (c .before .before .before .before .before .before .before .before .before .before .write-header .ensures) (c .before .before .before .before .before .before .write-heads .ensures) (c .before .before .write-block .ensures)
 

@@ -7,51 +7,39 @@ use Rattle.engine.proofs.fresh.write_block.Reads as reads
 use Rattle.engine.proofs.fresh.write_block.Lts as lts
 use Rattle.words.proofs.put_word.Reads as put-word-reads
 
--- src/fresh.rt:47:5
 put-word-requires : tie.Need-put-word-requires
 put-word-requires c κs = search needs
 
--- src/fresh.rt:48:24
 sub-put-word : tie.Need-sub-put-word
 sub-put-word c = search needs
 
--- src/fresh.rt:48:5
 put-word-requires-2 : tie.Need-put-word-requires-2
 put-word-requires-2 c κs = search needs
 
--- src/fresh.rt:49:17
 add-put-word : tie.Need-add-put-word
 add-put-word c = search needs
 
--- src/fresh.rt:49:5
 put-word-requires-3 : tie.Need-put-word-requires-3
 put-word-requires-3 c κs = search needs
 
--- src/fresh.rt:50:17
 sub-put-word-2 : tie.Need-sub-put-word-2
 sub-put-word-2 c = search needs
 
--- src/fresh.rt:50:5
 put-word-requires-4 : tie.Need-put-word-requires-4
 put-word-requires-4 c κs = search needs
 
--- src/fresh.rt:51:17
 sub-put-word-3 : tie.Need-sub-put-word-3
 sub-put-word-3 c = search needs
 
--- src/fresh.rt:51:26
 sub-put-word-4 : tie.Need-sub-put-word-4
 sub-put-word-4 c = search needs
 
--- src/fresh.rt:51:5
 put-word-requires-5 : tie.Need-put-word-requires-5
 put-word-requires-5 c κs = search needs
 
--- src/fresh.rt:43:1
 same-length : tie.Need-same-length
 same-length c = search needs
 
--- src/fresh.rt:43:1
 returns : tie.Need-returns
 unfolding draw highWords
 returns c = cc

@@ -8,37 +8,29 @@ use Rattle.words.proofs.bits.mark.Tie as tie
 use Rattle.words.proofs.bits.mark.Reads as reads
 use Rattle.words.proofs.bits.mark.Lts as lts
 
--- src/lib.rt:21:12
 mul-m : tie.Need-mul-m
 mul-m c = search needs
 
--- src/lib.rt:21:12
 slice-read-m : tie.Need-slice-read-m
 slice-read-m c = search needs
 
--- src/lib.rt:21:20
 shl-m : tie.Need-shl-m
 shl-m c = search needs
 
--- src/lib.rt:21:12
 add-m : tie.Need-add-m
 add-m c =
     rw (one-shifted (c .before .args .i % 64) (omega arith))
     (record { fits = mark-fits (c .before .args .m .now) (c .before .args .i) (c .before .pre .1) (c .slice-known .given (c .before .args .i / 64) .fits) })
 
--- src/lib.rt:21:5
 mul-m-2 : tie.Need-mul-m-2
 mul-m-2 c = search needs
 
--- src/lib.rt:21:5
 slice-write-m : tie.Need-slice-write-m
 slice-write-m c = search needs
 
--- src/lib.rt:15:1
 same-length : tie.Need-same-length
 same-length c = search needs
 
--- src/lib.rt:15:1
 returns : tie.Need-returns
 unfolding marked
 returns c = rw (one-shifted (c .before .args .i % 64) (omega arith))

@@ -5,19 +5,15 @@ use Rattle.words.proofs.bits.test.Tie as tie
 use Rattle.words.proofs.bits.test.Reads as reads
 use Rattle.words.proofs.bits.test.Lts as lts
 
--- src/lib.rt:12:6
 mul-result : tie.Need-mul-result
 mul-result c = search needs
 
--- src/lib.rt:12:6
 shared-slice-read-result : tie.Need-shared-slice-read-result
 shared-slice-read-result c = search needs
 
--- src/lib.rt:12:6
 shr-result : tie.Need-shr-result
 shr-result c = search needs
 
--- src/lib.rt:6:1
 returns : tie.Need-returns
 unfolding bitAt
 returns c = search needs

@@ -8,35 +8,27 @@ use Rattle.words.proofs.bits.unmark.Tie as tie
 use Rattle.words.proofs.bits.unmark.Reads as reads
 use Rattle.words.proofs.bits.unmark.Lts as lts
 
--- src/lib.rt:30:12
 mul-m : tie.Need-mul-m
 mul-m c = search needs
 
--- src/lib.rt:30:12
 slice-read-m : tie.Need-slice-read-m
 slice-read-m c = search needs
 
--- src/lib.rt:30:20
 shl-m : tie.Need-shl-m
 shl-m c = search needs
 
--- src/lib.rt:30:12
 sub-m : tie.Need-sub-m
 sub-m c = rw (one-shifted (c .before .args .i % 64) (omega arith)) (unmark-fits (c .before .args .m .now) (c .before .args .i) (c .before .pre .1))
 
--- src/lib.rt:30:5
 mul-m-2 : tie.Need-mul-m-2
 mul-m-2 c = search needs
 
--- src/lib.rt:30:5
 slice-write-m : tie.Need-slice-write-m
 slice-write-m c = search needs
 
--- src/lib.rt:24:1
 same-length : tie.Need-same-length
 same-length c = search needs
 
--- src/lib.rt:24:1
 returns : tie.Need-returns
 unfolding unmarked
 returns c = rw (one-shifted (c .before .args .i % 64) (omega arith))

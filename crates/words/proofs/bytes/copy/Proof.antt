@@ -13,43 +13,33 @@ Inv-loop b₀ from to n i₀ b i = Copying b₀ from to n b i × (i ≤ n)
 abbrev μ-loop : tie.MeasureT-loop
 μ-loop b₀ from to n i₀ b i = n - i
 
--- src/bytes.rt:14:5
 loop-holds : tie.Need-loop-holds Inv-loop μ-loop
 loop-holds c = (copy-start _ _ _ _ (c .pre), omega arith)
 
--- src/bytes.rt:15:17
 add-q : tie.Need-add-q Inv-loop μ-loop
 add-q c = search needs
 
--- src/bytes.rt:16:17
 add-p : tie.Need-add-p Inv-loop μ-loop
 add-p c = search needs
 
--- src/bytes.rt:17:16
 slice-read-b : tie.Need-slice-read-b Inv-loop μ-loop
 slice-read-b c = search needs
 
--- src/bytes.rt:17:9
 slice-write-b : tie.Need-slice-write-b Inv-loop μ-loop
 slice-write-b c = search needs
 
--- src/bytes.rt:18:9
 add-i : tie.Need-add-i Inv-loop μ-loop
 add-i c = search needs
 
--- src/bytes.rt:14:5
 loop-less : tie.Need-loop-less Inv-loop μ-loop
 loop-less c = search needs
 
--- src/bytes.rt:14:5
 loop-again : tie.Need-loop-again Inv-loop μ-loop
 loop-again c = (copy-turn (c .before .before .loop .inv .0) (omega arith), omega arith)
 
--- src/bytes.rt:9:1
 same-length : tie.Need-same-length Inv-loop μ-loop
 same-length c = c .before .loop .inv .0 .same
 
--- src/bytes.rt:9:1
 returns : tie.Need-returns Inv-loop μ-loop
 returns c = copy-done (c .before .loop .inv .0) (omega arith) (c .before .loop .inv .1)
 
