@@ -1,1 +1,2 @@
 mod FreshWords
+mod FindLaws

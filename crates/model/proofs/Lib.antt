@@ -19,6 +19,9 @@ pub mod PopReads
 pub mod Push
 pub mod FreeWalk
 pub mod Middle
+pub mod Standing
+pub mod Finding
+pub mod Aligned
 pub mod OnLayouts
 pub mod Figures
 pub mod Vectors

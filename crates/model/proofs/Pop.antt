@@ -23,12 +23,12 @@ use Rattle.model.specs.Rules.{itemTo, popped, slotTo, useTo}
 
 module _ (S : Shape) where
   -- a slot that is not where q is stays
-  slots-stay : (s : Slot) (c q p : ℕ) (ss : List Slot) → (p ≤ q → q < p + length ss * item S c → ⊥) → slotTo S s c q p ss ≡ ss
+  pub slots-stay : (s : Slot) (c q p : ℕ) (ss : List Slot) → (p ≤ q → q < p + length ss * item S c → ⊥) → slotTo S s c q p ss ≡ ss
   unfolding slotTo
   slots-stay s c q p [] h = refl
   slots-stay s c q p (x ∷ xs) h = rw (ne-eqb q p (λ e. h (omega arith) (omega arith)), slots-stay s c q (p + item S c) xs (λ i j. h (omega arith) (omega arith)))
 
-  blocks-stay : (s : Slot) (q p : ℕ) (bs : List Block) → (p ≤ q → q < ends S p bs → ⊥) → itemTo S s q p bs ≡ bs
+  pub blocks-stay : (s : Slot) (q p : ℕ) (bs : List Block) → (p ≤ q → q < ends S p bs → ⊥) → itemTo S s q p bs ≡ bs
   unfolding itemTo useTo ends sizeOf useSize
   blocks-stay s q p [] h = refl
   blocks-stay s q p (free t ∷ bs) h = ap (λ (l : List Block). free t ∷ l) (blocks-stay s q (p + t) bs (λ i j. h (omega arith) j))

@@ -14,6 +14,11 @@ unfoldable pub endsFree : ℕ → List Block → ℕ
 endsFree d [] = d
 endsFree d (b ∷ bs) = endsFree (ifFree b 1 0) bs
 
+pub ends-free-append : (d : ℕ) (xs ys : List Block) → endsFree d (xs ++ ys) ≡ endsFree (endsFree d xs) ys
+unfolding endsFree
+ends-free-append d [] ys = refl
+ends-free-append d (b ∷ xs) ys = ends-free-append (ifFree b 1 0) xs ys
+
 pub apart-append : (d : ℕ) (xs ys : List Block) → Apart d xs → Apart (endsFree d xs) ys → Apart d (xs ++ ys)
 unfolding Apart endsFree
 apart-append d [] ys h k = k
