@@ -1,5 +1,5 @@
 -- What each way through the search for a live address shows.
-use Prim.Native.Nat.{ℕ, zero, suc, _+_, _-_, _*_, _/_, _%_, _≤_, _<_}
+use Prim.Native.Nat.{ℕ, _+_, _-_, _*_, _/_, _%_, _≤_, _<_}
 use mathlib.Core.Path.{_≡_, refl, sym, ap, subst, _∙_}
 use mathlib.Core.List.{List, [], _∷_, _++_, append-nil}
 use native.Mathlib.Nat.{mul-mod-left, div-add-mod', mul-div-cancel}
@@ -8,16 +8,16 @@ use lib.ListN.{length, getD}
 use Rattle.words.specs.Word.{wordAt}
 use Rattle.model.specs.Shape.{wide, item, offsetOf, endOf}
 use Rattle.model.specs.Picture.{Shows}
-use Rattle.model.specs.Layout.{Slot, Use, variable, page, Block, free, used, Layout, nextOf, useSize, ends, slotWords, useWords, own}
+use Rattle.model.specs.Layout.{Slot, variable, page, Block, free, used, Layout, nextOf, useSize, slotWords, useWords, own}
 use Rattle.model.specs.Sound.{Allowed, AllowedUse, AllAllowed, Here, Sound}
 use Rattle.model.specs.Rules.{Spot, Found, block, thing, nothing, find, findFrom, inSlots}
 use Rattle.model.proofs.Pictures.{shows-left}
-use Rattle.model.proofs.Blocks.{allowed-left, ends-append, le-ends}
+use Rattle.model.proofs.Blocks.{allowed-left, le-ends}
 use Rattle.model.proofs.Standing.{Standing, stand-start, PageThere, sized, walk-free, walk-used, is-variable, is-free, is-page}
 use Rattle.model.proofs.Finding.{behinds, slots-below, find-past, find-below, find-at, find-not-at, find-free, find-page}
 use Rattle.model.proofs.Aligned.{next-aligned, class-read, SlotRead, slot-read, slots-none}
 use Rattle.engine.specs.declared.find.Live.the-variants.{Nothing, Item, Variable}
-use Rattle.engine.specs.Find.{BlockFound, Finds, OnBlock, OnPage}
+use Rattle.engine.specs.Find.{Finds, OnBlock, OnPage}
 
 module _ {b : List ℕ} {L : Layout} (h : Here wide b L) {p prev left : ℕ} (s : Standing L p prev left) where
   -- what is found is found from where the walk stands
@@ -65,16 +65,18 @@ module _ {b : List ℕ} {p t prev left a : ℕ} (o : OnBlock b p t prev left a) 
   unfolding Finds
   found-variable z e =
       let r = is-variable h stands t (o .tag) (omega (arith, o .from, o .below)) z in
-      let spot : Spot = record { pre = stands .pre; size = t / 8 * 8; post = r .0 } in
-      (spot,
-      record {
-        found = found-rest (used (variable (t / 8 * 8)) ∷ r .0) (r .1)
-            ∙ ap (λ (f : Found). behinds (stands .pre) f) (find-at wide (omega arith) a p (t / 8 * 8) (r .0) e)
-            ∙ ap (λ (l : List Block). block (record { pre = l; size = t / 8 * 8; post = r .0 })) (append-nil (stands .pre));
-        at = stands .begins;
-        size = refl;
-        before = stands .before;
-        touches = stands .touches })
+      let spot : Spot = record { pre = stands .pre; size = t / 8 * 8; post = r .0 } in (
+        spot,
+        record {
+          found = found-rest (used (variable (t / 8 * 8)) ∷ r .0) (r .1)
+              ∙ ap (λ (f : Found). behinds (stands .pre) f) (find-at wide (omega arith) a p (t / 8 * 8) (r .0) e)
+              ∙ ap (λ (l : List Block). block (record { pre = l; size = t / 8 * 8; post = r .0 })) (append-nil (stands .pre));
+          at = stands .begins;
+          size = refl;
+          before = stands .before;
+          touches = stands .touches;
+        },
+      )
 
 module _ {b : List ℕ} {p a : ℕ} (o : OnPage b p a) (L : Layout) (h : Here wide b L) where
   on : OnBlock b p (o .tag) (o .prev) (o .left) a

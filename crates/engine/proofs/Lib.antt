@@ -1,2 +1,5 @@
 mod FreshWords
 mod FindLaws
+mod ReleaseLaws
+mod GiveLaws
+mod FreeLaws

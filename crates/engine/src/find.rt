@@ -1,7 +1,9 @@
 // What is live at an address: found by one walk over the blocks below it, so that no payload and no stale word can pass for a tag.
-use model::{item_size, items_in_page, Position, START};
+use model::Position;
+use model::START;
+use model::item_size;
+use model::items_in_page;
 use words::word;
-
 ghost use mathlib.Core.Path.{_≡_};
 ghost use Prim.Native.Nat.{_+_, _<_, _≤_};
 ghost use lib.ListN.{length};
@@ -63,7 +65,12 @@ fn in_block(h: &[u8], p: usize, t: usize, prev: usize, left: usize, a: usize) ->
     if a != p + 8 {
         return Live::Nothing;
     }
-    Live::Variable(Block { at: Position(p), size: t / 8 * 8, prev: Position(prev), left: left })
+    Live::Variable(Block {
+        at: Position(p),
+        size: t / 8 * 8,
+        prev: Position(prev),
+        left: left,
+    })
 }
 
 // What is live at a.

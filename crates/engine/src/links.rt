@@ -8,7 +8,7 @@ ghost use lib.ListN.{length};
 ghost use Rattle.model.specs.Shape.{wide};
 ghost use Rattle.model.specs.Picture.{draw};
 ghost use Rattle.model.proofs.Middle.{linkOf, backOf, putIf};
-ghost use Rattle.engine.specs.Links.{BackRoom, FreeRoom, freeWords};
+ghost use Rattle.engine.specs.Links.{BackRoom, FreeRoom, LinkRoom, freeWords, linkedBytes};
 
 // Where the link to what follows the free block at prev stands: in that block, or in the header where prev is 0.
 pub fn link_at(prev: usize) -> usize
@@ -49,4 +49,16 @@ pub fn put_free(h: &mut [u8], p: usize, s: usize, prev: usize, next: usize)
     put_word(h, p + 8, next);
     put_word(h, p + s - 16, prev);
     put_word(h, p + s - 8, s);
+}
+
+// A free block from `from` to `to`, with the links of the free blocks before and behind it.
+pub fn put_linked(h: &mut [u8], from: usize, to: usize, before: usize, behind: usize)
+    requires { ⌜ LinkRoom (now h) from to before behind ⌝ }
+    ensures { λ _. ⌜ now (h .exit) ≡ linkedBytes (now (h .entry)) from to before behind ⌝ }
+{
+    let link = link_at(before);
+    let back = back_at(h, behind);
+    put_word(h, link, from);
+    put_free(h, from, to - from, before, behind);
+    put_if(h, back, from);
 }

@@ -1,14 +1,13 @@
 -- Initialise: what each way through the call shows of its contract.
-use Prim.Native.Nat.{ℕ, _≤_, _<_}
+use Prim.Native.Nat.{ℕ}
 use mathlib.Core.Path.{_≡_, refl, sym, ap, _∙_}
 use mathlib.Core.List.{List}
-use native.Mathlib.Omega.{arith}
 use lib.ListN.{length}
 use Rattle.words.specs.Word.{wordAt, put}
 use Rattle.model.specs.Shape.{wide, endOf}
 use Rattle.model.specs.Rules.{fresh}
 use Rattle.model.specs.Refusals.{badLength, alreadyOpened}
-use Rattle.model.specs.Calls.{Outcome, refused, granted, Lent, drawn, Initialises}
+use Rattle.model.specs.Calls.{refused, granted, Lent, drawn, Initialises}
 
 pub opens-not-lent : (b : List ℕ) → (Lent wide b → ⊥) → Initialises wide b (refused b badLength)
 opens-not-lent b n = record { one = λ _. refl; seven = λ l. absurd (n l); opens = λ l. absurd (n l) }

@@ -2,8 +2,8 @@
 use Prim.Native.Nat.{ℕ, zero, suc, _+_, _-_, _*_, _/_, _%_, _≤_, _<_}
 use mathlib.Core.Path.{_≡_, refl, sym, ap, _∙_}
 use mathlib.Core.Bool.{Bool, true, false, cond}
-use mathlib.Core.List.{List, [], _∷_, _++_}
-use mathlib.Core.Logic.{_⊎_, inl, inr, ⊎-elim}
+use mathlib.Core.List.{List, [], _∷_}
+use mathlib.Core.Logic.{⊎-elim}
 use native.Mathlib.Omega.{arith}
 use native.Mathlib.Decide.{ℕ-discrete, decLe}
 use lib.ListN.{length, getD}
@@ -12,9 +12,9 @@ use borrow.Author.Tests.{eq-eqb, ne-eqb}
 use Rattle.words.specs.Word.{wordAt}
 use Rattle.model.specs.Shape.{wide, item, addressOf, offsetOf}
 use Rattle.model.specs.Picture.{Shows}
-use Rattle.model.specs.Layout.{Slot, idle, held, Use, variable, page, Block, free, used, Layout, nextOf, useSize, sizeOf, header, slotWords}
-use Rattle.model.specs.Sound.{times, Allowed, AllowedUse, AllAllowed, idleSlots, idleIn, idleItems, Valid}
-use Rattle.model.specs.Rules.{Found, thing, nothing, inSlots}
+use Rattle.model.specs.Layout.{Slot, idle, held, variable, page, Block, free, used, Layout, nextOf, sizeOf, header, slotWords}
+use Rattle.model.specs.Sound.{times, AllAllowed, idleSlots, idleIn, idleItems, Valid}
+use Rattle.model.specs.Rules.{thing, nothing, inSlots}
 use Rattle.model.proofs.Drawn.{times-append, next-of}
 use Rattle.model.proofs.Standing.{sizes}
 use Rattle.model.proofs.Finding.{slots-below}
@@ -72,13 +72,15 @@ module _ (b : List ℕ) (l : List ℕ) (c : ℕ) (few : c < 32) (aligned : (o : 
       let z : a - 8 ≡ q = omega arith in
       record {
         in-use = λ k. absurd (omega (arith, s .0, ap (λ (x : ℕ). wordAt 8 b x) z));
-        not-in-use = λ k. slots-below wide (omega arith) a c (q + item wide c) ss (omega arith) }
+        not-in-use = λ k. slots-below wide (omega arith) a c (q + item wide c) ss (omega arith);
+      }
   slot-read a q zero (held ∷ ss) h e s =
       let z : a - 8 ≡ q = omega arith in
       let f : a ≡ addressOf wide q = omega arith in
       record {
         in-use = λ k. rw (eq-eqb a (addressOf wide q) f) (ap (λ (x : ℕ). thing (offsetOf wide x) c) (sym z));
-        not-in-use = λ k. absurd (k (ap (λ (x : ℕ). wordAt 8 b x) z ∙ s .0)) }
+        not-in-use = λ k. absurd (k (ap (λ (x : ℕ). wordAt 8 b x) z ∙ s .0));
+      }
   slot-read a q (suc i) (idle ∷ ss) h e s =
       let r = slot-read a (q + item wide c) i ss (omega arith) (omega arith) (s .1) in
       record { in-use = r .in-use; not-in-use = r .not-in-use }

@@ -74,7 +74,7 @@ module _ (S : Shape) where
 
   -- every value of the picture fits
   module _ (end : ℕ) (L : Layout) (v : Valid S end L) (room : 16 * end + 4 * S .classes + 64 * S .word + 64 < 256 ^ S .word) where
-    listed-below : (c o : ℕ) → c < S .classes → (o ≡ 0) ⊎ (1 ≤ times o (getD (L .lists) c [])) → o ≤ end
+    pub listed-below : (c o : ℕ) → c < S .classes → (o ≡ 0) ⊎ (1 ≤ times o (getD (L .lists) c [])) → o ≤ end
     listed-below c o h (inl e) = omega arith
     listed-below c o h (inr e) = rw (v .fills) at (item-below c o (start S) (L .blocks) (rw (v .listed c o h) at e))
 

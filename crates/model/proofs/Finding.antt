@@ -1,5 +1,5 @@
 -- What is live at an address: laws of `find`.
-use Prim.Native.Nat.{ℕ, _+_, _-_, _*_, _≤_, _<_}
+use Prim.Native.Nat.{ℕ, _+_, _*_, _≤_, _<_}
 use mathlib.Core.Path.{_≡_, refl, sym, ap, ap₂, _∙_}
 use mathlib.Core.Bool.{Bool, true, false, cond}
 use mathlib.Core.List.{List, [], _∷_, _++_}
@@ -10,11 +10,11 @@ use lib.ListN.{length}
 use lib.Dec.{eqb}
 use borrow.Author.Tests.{eq-eqb, ne-eqb}
 use Rattle.model.specs.Shape.{Shape, index, tags, item, addressOf, offsetOf, itemAt}
-use Rattle.model.specs.Layout.{Slot, idle, held, Use, variable, page, Block, free, used, useSize, sizeOf, ends}
+use Rattle.model.specs.Layout.{Slot, idle, held, variable, page, Block, free, used, useSize, sizeOf, ends}
 use Rattle.model.specs.Sound.{Allowed, AllowedUse, AllAllowed}
 use Rattle.model.specs.Rules.{Spot, Found, block, thing, nothing, behind, orElse, slotTo, useTo, itemTo, inSlots, findFrom}
 use Rattle.model.proofs.Blocks.{le-ends}
-use Rattle.model.proofs.Items.{InSlots, InUse, InBlocks, slots-range, use-range, blocks-range}
+use Rattle.model.proofs.Items.{InSlots, InUse, InBlocks, slots-range, blocks-range}
 use Rattle.model.proofs.Pop.{slots-stay, blocks-stay}
 
 -- what was found, with blocks in front
@@ -188,7 +188,8 @@ module _ (S : Shape) (w0 : 0 < S .word) where
             class = sym (s .1);
             at = omega arith;
             there = inl q;
-            in-use = rw (eq-eqb (itemAt S o) p q, slots-stay S held d (itemAt S o) (p + item S d) ss (λ i j. omega arith)) }
+            in-use = rw (eq-eqb (itemAt S o) p q, slots-stay S held d (itemAt S o) (p + item S d) ss (λ i j. omega arith));
+          }
 
   -- with one block in front that does not reach the item
   item-behind : (a o c p : ℕ) (b : Block) (bs : List Block) (f : Found) → (f ≡ thing o c → ItemFound a o c (p + sizeOf S b) bs) → behind b f ≡ thing o c → ItemFound a o c p (b ∷ bs)
@@ -205,7 +206,8 @@ module _ (S : Shape) (w0 : 0 < S .word) where
         class = g .class;
         at = g .at;
         there = inr (g .there);
-        in-use = ap₂ (λ (l : List Slot) (m : List Block). used (page d k l) ∷ m) (slots-stay S held d (itemAt S o) (p + S .word) ss (λ i j. omega (arith, z .0))) (g .in-use) }
+        in-use = ap₂ (λ (l : List Slot) (m : List Block). used (page d k l) ∷ m) (slots-stay S held d (itemAt S o) (p + S .word) ss (λ i j. omega (arith, z .0))) (g .in-use);
+      }
 
   pub item-found : (a o c p : ℕ) (bs : List Block) → index S ≤ p → AllAllowed S bs → findFrom S a p bs ≡ thing o c → ItemFound a o c p bs
   unfolding findFrom sizeOf AllAllowed Allowed
@@ -228,7 +230,9 @@ module _ (S : Shape) (w0 : 0 < S .word) where
             class = omega (arith, g .class, al .0 .0);
             at = g .at;
             there = inl (g .class, rw (g .class) (g .there));
-            in-use = ap₂ (λ (l : List Slot) (m : List Block). used (page d k l) ∷ m) (g .in-use) (blocks-stay S held (itemAt S o) (p + (tags S + length ss * item S d + k)) bs (λ i j. omega (arith, z .1))) }
+            in-use = ap₂ (λ (l : List Slot) (m : List Block). used (page d k l) ∷ m) (g .in-use) (blocks-stay S held (itemAt S o) (p + (tags S + length ss * item S d + k)) bs (λ i j. omega (arith, z .1)));
+          }
+
       go : (f : Found) → (f ≡ thing o c → SlotFound a o c d (p + S .word) ss) → orElse f (behind (used (page d k ss)) (findFrom S a (p + useSize S (page d k ss)) bs)) ≡ thing o c
           → (findFrom S a (p + useSize S (page d k ss)) bs ≡ thing o c → ItemFound a o c (p + useSize S (page d k ss)) bs) → ItemFound a o c p (used (page d k ss) ∷ bs)
       go (block t) s e r = absurd (not-thing t o c e)

@@ -22,6 +22,7 @@ pub mod Middle
 pub mod Standing
 pub mod Finding
 pub mod Aligned
+pub mod Releasing
 pub mod OnLayouts
 pub mod Figures
 pub mod Vectors

@@ -1,5 +1,5 @@
 -- Blocks in the middle of a heap, as code meets them: what can be read around them, and what writing others in their place gives.
-use Prim.Native.Nat.{ℕ, _+_, _-_, _*_, _%_, _^_, _≤_, _<_}
+use Prim.Native.Nat.{ℕ, _+_, _-_, _*_, _^_, _≤_, _<_}
 use mathlib.Core.Path.{_≡_, refl, sym, ap, subst, _∙_}
 use mathlib.Core.Bool.{cond}
 use mathlib.Core.List.{List, [], _∷_, _++_}
@@ -13,10 +13,10 @@ use Rattle.words.specs.Word.{wordAt, put}
 use Rattle.words.proofs.WordLaws.{Bytes}
 use Rattle.model.specs.Shape.{Shape, start, firstFreeAt, endOf}
 use Rattle.model.specs.Picture.{Word, Shows, draw}
-use Rattle.model.specs.Layout.{Use, Block, free, used, Layout, useSize, sizeOf, ends, firstFree, useWords, own, blockWords, words}
+use Rattle.model.specs.Layout.{Block, free, used, Layout, useSize, sizeOf, ends, firstFree, useWords, own, blockWords, fixedLow, fixedHigh, words}
 use Rattle.model.specs.Sound.{Allowed, AllAllowed, Valid, Here}
 use Rattle.model.proofs.Pictures.{shows-left, shows-right, draw-append}
-use Rattle.model.proofs.Blocks.{lastFree, linkAt, backWords, ends-append, le-ends, allowed-left, allowed-right, first-below, last-below}
+use Rattle.model.proofs.Blocks.{lastFree, linkAt, backWords, ends-append, le-ends, allowed-left, allowed-right, first-below}
 use Rattle.model.proofs.Links.{link-range}
 use Rattle.model.proofs.Replace.{front, three, Places, words-parts}
 use Rattle.model.proofs.Remade.{remade}
@@ -42,22 +42,38 @@ module _ (S : Shape) where
     pub inside : end ≤ length b
     pub places : Places S pre old post p q prev next
 
-  pub middle-of : (b : List ℕ) (L : Layout) (pre old post : List Block) (p : ℕ) → Here S b L → L .blocks ≡ pre ++ (old ++ post) → ends S (start S) pre ≡ p
-      → Middle b (endOf (length b)) (L .lists) pre old post p (ends S p old) (lastFree S (start S) pre 0) (firstFree S (ends S p old) post 0)
-  middle-of b L pre old post p h e f =
+  pub middle-at : (b : List ℕ) (L : Layout) (pre old post : List Block) (p q prev next : ℕ) → Here S b L → L .blocks ≡ pre ++ (old ++ post) → Places S pre old post p q prev next
+      → Middle b (endOf (length b)) (L .lists) pre old post p q prev next
+  middle-at b L pre old post p q prev next h e f =
       record {
         shown = subst (λ (bs : List Block). Shows (S .word) b (words S (endOf (length b)) (record { blocks = bs; lists = L .lists }))) e (h .shown);
         allowed = subst (λ (bs : List Block). AllAllowed S bs) e (h .valid .allowed);
         fills = subst (λ (bs : List Block). ends S (start S) bs ≡ endOf (length b)) e (h .valid .fills);
         inside = omega arith;
-        places = record { begins = f; finishes = refl; before = refl; behind = refl };
+        places = f;
       }
+
+  pub middle-of : (b : List ℕ) (L : Layout) (pre old post : List Block) (p : ℕ) → Here S b L → L .blocks ≡ pre ++ (old ++ post) → ends S (start S) pre ≡ p
+      → Middle b (endOf (length b)) (L .lists) pre old post p (ends S p old) (lastFree S (start S) pre 0) (firstFree S (ends S p old) post 0)
+  middle-of b L pre old post p h e f =
+      middle-at b L pre old post p (ends S p old) (lastFree S (start S) pre 0) (firstFree S (ends S p old) post 0) h e (record { begins = f; finishes = refl; before = refl; behind = refl })
 
   link-of : (p : ℕ) (bs : List Block) (x : ℕ) → 0 < p → linkOf (lastFree S p bs x) ≡ linkAt S p bs (linkOf x)
   unfolding lastFree linkAt
   link-of p [] x h = refl
   link-of p (free s ∷ bs) x h = link-of (p + sizeOf S (free s)) bs p (omega arith) ∙ rw (ne-eqb p 0 (λ e. omega arith)) refl
   link-of p (used u ∷ bs) x h = link-of (p + sizeOf S (used u)) bs x (omega arith)
+
+  -- the link to what comes after blocks, read
+  link-read : (ls : List (List ℕ)) (b : List ℕ) (p prev next : ℕ) (bs : List Block) (d : ℕ) → wordAt (S .word) b d ≡ firstFree S p bs next → Shows (S .word) b (blockWords S ls p prev next bs)
+      → wordAt (S .word) b (linkAt S p bs d) ≡ next
+  unfolding firstFree linkAt blockWords own Shows
+  link-read ls b p prev next [] d e s = e
+  link-read ls b p prev next (free t ∷ bs) d e s =
+      link-read ls b (p + sizeOf S (free t)) p next bs (p + S .word) (s .1 .0)
+      (shows-right (S .word) b (own S ls p prev (firstFree S (p + sizeOf S (free t)) bs next) (free t)) (blockWords S ls (p + sizeOf S (free t)) p next bs) s)
+  link-read ls b p prev next (used u ∷ bs) d e s =
+      link-read ls b (p + sizeOf S (used u)) prev next bs d e (shows-right (S .word) b (useWords S ls p u) (blockWords S ls (p + sizeOf S (used u)) prev next bs) s)
 
   -- the link back, drawn
   back-draw : (ls : List (List ℕ)) (p prev v : ℕ) (bs : List Block) (b c : List ℕ) → 0 < p → AllAllowed S bs → 0 < S .word → Shows (S .word) b (blockWords S ls p prev 0 bs)
@@ -122,6 +138,17 @@ module _ (S : Shape) where
     link-is : linkOf prev ≡ linkAt S (start S) pre (firstFreeAt S)
     link-is = ap (λ (x : ℕ). linkOf x) (sym (m .places .before)) ∙ link-of (start S) pre 0 (omega arith)
 
+    -- what the link to the blocks says
+    pub link-shown : wordAt (S .word) b (linkOf prev) ≡ firstFree S p old next
+    unfolding front Shows
+    link-shown =
+        let parts = rw (words-parts S end ls pre old post p q prev next (m .places)) at (m .shown) in
+        let f = shows-left (S .word) b (front S end ls pre (firstFree S p old next)) (blockWords S ls p prev next old ++ blockWords S ls q (lastFree S p old prev) 0 post) parts in
+        let rest = shows-right (S .word) b (fixedLow S) (record { at = firstFreeAt S; is = firstFree S (start S) pre (firstFree S p old next) } ∷ (fixedHigh S end ls ++ blockWords S ls (start S) 0 (firstFree S p old next) pre)) f in
+        ap (λ (x : ℕ). wordAt (S .word) b x) link-is
+        ∙ link-read ls b (start S) 0 (firstFree S p old next) pre (firstFreeAt S) (rest .0)
+        (shows-right (S .word) b (fixedHigh S end ls) (blockWords S ls (start S) 0 (firstFree S p old next) pre) (rest .1))
+
     -- the link to the blocks stands before them
     pub link-in : linkOf prev + S .word ≤ p
     link-in = rw link-is (⊎-elim (λ e. omega (arith, start-le)) (λ e. omega (arith, e .1, m .places .begins)) (link-range S (start S) pre (firstFreeAt S) all-pre))
@@ -165,3 +192,14 @@ module _ (S : Shape) where
         back
         ∙ sym (draw-append (S .word) ws (backWords S q post (lastFree S p mid prev)) b)
         ∙ rw link-is (remade S end ls pre old mid post p q prev next b bytes (m .inside) room all-old will (m .places) f (m .shown))
+
+  -- one free block in the middle: what its words say
+  pub record FreeRead (b : List ℕ) (p s prev next : ℕ) : Type 0 where
+    pub least : 4 * S .word ≤ s
+    pub size : wordAt (S .word) b p ≡ s
+    pub next-is : wordAt (S .word) b (p + S .word) ≡ next
+    pub prev-is : wordAt (S .word) b (p + s - 2 * S .word) ≡ prev
+
+  pub free-read : {b : List ℕ} {end : ℕ} {ls : List (List ℕ)} {pre post : List Block} {p q prev next s : ℕ} → Middle b end ls pre (free s ∷ []) post p q prev next → FreeRead b p s prev next
+  unfolding blockWords own firstFree Shows AllAllowed Allowed
+  free-read m = let w = old-shown m in record { least = all-old m .0 .0; size = w .0; next-is = w .1 .0; prev-is = w .1 .1 .0 }

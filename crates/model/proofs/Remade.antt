@@ -14,7 +14,7 @@ use Rattle.model.proofs.Pictures.{Rise, rise-inside, draw-shows}
 use Rattle.model.proofs.Blocks.{le-ends, ends-append, allowed-left, allowed-right, rise-blocks, first-below, last-below}
 use Rattle.model.proofs.Replace.{three, Places, changes, replaced}
 use Rattle.model.proofs.Drawn.{fit-blocks}
-use Rattle.model.proofs.Valid.{replaced-valid, apart-down}
+use Rattle.model.proofs.Valid.{endsFree, replaced-valid, replaced-valid-at, apart-down}
 
 module _ (S : Shape) (end : ℕ) (ls : List (List ℕ)) (pre old mid post : List Block) (p q prev next : ℕ) where
   -- THE LAW, for any old and new blocks of the same extent
@@ -64,6 +64,6 @@ module _ (S : Shape) (end : ℕ) (ls : List (List ℕ)) (pre post : List Block) 
 
   -- blocks with no free item become one free block
   pub joined-valid : (old : List Block) (n : ℕ) → Valid S end (three S ls pre old post) → ends S (ends S (start S) pre) old ≡ ends S (start S) pre + n → least S ≤ n → n % 8 ≡ 0
-      → ((c : ℕ) → idleItems S c (ends S (start S) pre) old ≡ []) → ((d : ℕ) → Apart d (old ++ post) → Apart d (free n ∷ post)) → Valid S end (three S ls pre (free n ∷ []) post)
+      → ((c : ℕ) → idleItems S c (ends S (start S) pre) old ≡ []) → (Apart (endsFree 0 pre) (old ++ post) → Apart (endsFree 0 pre) (free n ∷ post)) → Valid S end (three S ls pre (free n ∷ []) post)
   unfolding AllAllowed Allowed ends sizeOf idleItems idleIn
-  joined-valid old n v e big eight none a = replaced-valid S end ls pre old (free n ∷ []) post v ((big, eight), tt) (sym e) a (λ c. sym (none c))
+  joined-valid old n v e big eight none a = replaced-valid-at S end ls pre old (free n ∷ []) post v ((big, eight), tt) (sym e) a (λ c. sym (none c))

@@ -1,16 +1,16 @@
 -- A walk over a sound heap's blocks: where it stands, and what the tag there says. (At document 01's shape.)
-use Prim.Native.Nat.{ℕ, zero, suc, _+_, _-_, _*_, _/_, _%_, _≤_, _<_}
+use Prim.Native.Nat.{ℕ, _+_, _*_, _/_, _%_, _≤_, _<_}
 use mathlib.Core.Path.{_≡_, refl, sym, ap, subst, _∙_}
 use mathlib.Core.List.{List, [], _∷_, _++_, append-assoc}
 use native.Mathlib.Omega.{arith}
-use lib.ListN.{length, getD}
+use lib.ListN.{length}
 use Rattle.words.specs.Word.{wordAt}
 use Rattle.model.specs.Shape.{wide, tags, item, endOf}
 use Rattle.model.specs.Picture.{Shows}
-use Rattle.model.specs.Layout.{Slot, idle, held, Use, variable, page, Block, free, used, Layout, ifFree, useSize, sizeOf, ends, firstFree, header, slotWords, useWords, own, blockWords}
+use Rattle.model.specs.Layout.{Slot, variable, page, Block, free, used, Layout, ifFree, useSize, sizeOf, ends, firstFree, useWords, own, blockWords}
 use Rattle.model.specs.Sound.{Allowed, AllowedUse, AllAllowed, Here}
 use Rattle.model.proofs.Pictures.{shows-left, shows-right}
-use Rattle.model.proofs.Blocks.{lastFree, ends-append, le-ends, last-append, words-append, allowed-left, allowed-right}
+use Rattle.model.proofs.Blocks.{lastFree, ends-append, le-ends, last-append, words-append, allowed-right}
 use Rattle.model.proofs.Valid.{endsFree, ends-free-append}
 use Rattle.model.proofs.Shown.{blocks-shown}
 
@@ -76,7 +76,8 @@ module _ {b : List ℕ} {L : Layout} (h : Here wide b L) {p prev left : ℕ} (s 
         least = sizes x a .0;
         eight = sizes x a .1;
         inside = omega (arith, f, le-ends wide (p + sizeOf wide x) after);
-        shown = own-shown }
+        shown = own-shown;
+      }
 
   -- before the end there is a block
   pub record Block-there : Type 0 where
@@ -107,7 +108,8 @@ module _ {b : List ℕ} {L : Layout} (h : Here wide b L) {p prev left : ℕ} (s 
         blocks = s .blocks ∙ ap (λ (l : List Block). s .pre ++ l) e ∙ sym (append-assoc (s .pre) (x ∷ []) after);
         begins = ends-append wide 312 (s .pre) (x ∷ []) ∙ ap (λ (y : ℕ). y + sizeOf wide x) (s .begins);
         before = last-append wide 312 (s .pre) (x ∷ []) 0 ∙ rw (s .begins, s .before) refl;
-        touches = ends-free-append 0 (s .pre) (x ∷ []) }
+        touches = ends-free-append 0 (s .pre) (x ∷ []);
+      }
 
   -- what the tag t at p says: the block's size and kind
   module _ (t : ℕ) (e : t ≡ wordAt 8 b p) (l : p < endOf (length b)) where

@@ -16,59 +16,45 @@ Inv-loop h a p₀ prev₀ left₀ p prev left = Looking h a p prev left
 abbrev μ-loop : tie.MeasureT-loop
 μ-loop h a p₀ prev₀ left₀ p prev left = a - p
 
--- src/find.rt:75:9
 returns : tie.Need-returns Inv-loop μ-loop
 returns c = λ L h. found-before L _ (omega arith)
 
--- src/find.rt:77:8
 mul-if2 : tie.Need-mul-if2 Inv-loop μ-loop
 mul-if2 c = search needs
 
--- src/find.rt:78:9
 returns-2 : tie.Need-returns-2 Inv-loop μ-loop
 returns-2 c = λ L h. found-behind _ L _ h (omega arith)
 
--- src/find.rt:83:5
 loop-holds : tie.Need-loop-holds Inv-loop μ-loop
 loop-holds c = look-start _ _ (c .before .before .before .pre) (omega arith) (omega arith)
 
--- src/find.rt:84:13
 word-requires : tie.Need-word-requires Inv-loop μ-loop
 word-requires c κs = omega (arith, look-inside (c .before .loop .inv) (omega arith) _ refl)
 
--- src/find.rt:85:24
 mul-next : tie.Need-mul-next Inv-loop μ-loop
 mul-next c = search needs
 
--- src/find.rt:85:20
 add-next : tie.Need-add-next Inv-loop μ-loop
 add-next c = omega (arith, look-inside (c .before .before .loop .inv) (omega arith) _ (c .word .ensures))
 
--- src/find.rt:87:13
 in-block-requires : tie.Need-in-block-requires Inv-loop μ-loop
 in-block-requires c κs = look-on (c .before .before .before .loop .inv) _ (c .before .word .ensures) (omega arith)
 
--- src/find.rt:87:13
 returns-3 : tie.Need-returns-3 Inv-loop μ-loop
 returns-3 c = c .in-block .ensures
 
--- src/find.rt:83:5
 loop-less : tie.Need-loop-less Inv-loop μ-loop
 loop-less c = omega (arith, look-inside (c .before .before .before .before .loop .inv) (omega arith) _ (c .before .before .word .ensures))
 
--- src/find.rt:83:5
 loop-again : tie.Need-loop-again Inv-loop μ-loop
 loop-again c = look-past-free (c .before .before .before .before .loop .inv) (omega arith) _ (c .before .before .word .ensures) (omega arith) (c .if4 .taken)
 
--- src/find.rt:83:5
 loop-less-2 : tie.Need-loop-less-2 Inv-loop μ-loop
 loop-less-2 c = omega (arith, look-inside (c .before .before .before .before .loop .inv) (omega arith) _ (c .before .before .word .ensures))
 
--- src/find.rt:83:5
 loop-again-2 : tie.Need-loop-again-2 Inv-loop μ-loop
 loop-again-2 c = look-past-used (c .before .before .before .before .loop .inv) (omega arith) _ (c .before .before .word .ensures) (omega arith) (c .if4 .left)
 
--- src/find.rt:70:1
 returns-4 : tie.Need-returns-4 Inv-loop μ-loop
 returns-4 c = look-end (c .before .loop .inv) (omega arith)
 

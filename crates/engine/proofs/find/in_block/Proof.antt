@@ -7,31 +7,24 @@ use Rattle.engine.proofs.find.in_block.Reads as reads
 use Rattle.engine.proofs.find.in_block.Lts as lts
 use Rattle.engine.proofs.find.in_page.Reads as in-page-reads
 
--- src/find.rt:58:9
 returns : tie.Need-returns
 returns c = λ L h. found-in-free (c .before .before .pre) L h (c .if1 .taken)
 
--- src/find.rt:61:9
 in-page-requires : tie.Need-in-page-requires
 in-page-requires c κs = record { tag = _; prev = _; left = _; block = c .before .before .before .pre; not-free = c .before .if1 .left; not-variable = c .if2 .taken }
 
--- src/find.rt:61:9
 returns-2 : tie.Need-returns-2
 returns-2 c = search needs
 
--- src/find.rt:63:13
 add-if3 : tie.Need-add-if3
 add-if3 c = search needs
 
--- src/find.rt:64:9
 returns-3 : tie.Need-returns-3
 returns-3 c = λ L h. found-elsewhere (c .before .before .before .before .pre) L h (omega arith) (c .if3 .taken)
 
--- src/find.rt:66:51
 mul-t10 : tie.Need-mul-t10
 mul-t10 c = search needs
 
--- src/find.rt:53:1
 returns-4 : tie.Need-returns-4
 returns-4 c = λ L h. found-variable (c .before .before .before .before .pre) L h (omega arith) (c .if3 .left)
 

@@ -11,75 +11,57 @@ use Rattle.model.proofs.item_size.Reads as item-size-reads
 use Rattle.model.proofs.items_in_page.Reads as items-in-page-reads
 use Rattle.words.proofs.word.Reads as word-reads
 
--- src/find.rt:33:12
 add-if1 : tie.Need-add-if1
 add-if1 c = search needs
 
--- src/find.rt:34:9
 returns : tie.Need-returns
 returns c = λ L h. page-low (c .before .before .pre) L h (omega arith)
 
--- src/find.rt:36:21
 add-word : tie.Need-add-word
 add-word c = search needs
 
--- src/find.rt:36:13
 word-requires : tie.Need-word-requires
 word-requires c κs = search needs
 
--- src/find.rt:37:9
 item-size-requires : tie.Need-item-size-requires
 item-size-requires c κs = search needs
 
--- src/find.rt:38:18
 add-d : tie.Need-add-d
 add-d c = search needs
 
--- src/find.rt:38:13
 sub-d : tie.Need-sub-d
 sub-d c = search needs
 
--- src/find.rt:39:8
 rem-if2 : tie.Need-rem-if2
 rem-if2 c = search needs
 
--- src/find.rt:40:9
 returns-2 : tie.Need-returns-2
 returns-2 c = λ L h. page-uneven (c .before .before .before .before .before .pre) L h _ _ (wide .perPage _) (c .before .before .word .ensures) (c .before .item-size .ensures) refl (omega arith) (c .if2 .taken)
 
--- src/find.rt:42:8
 items-in-page-requires : tie.Need-items-in-page-requires
 items-in-page-requires c κs = search needs
 
--- src/find.rt:42:28
 div-if3 : tie.Need-div-if3
 div-if3 c = search needs
 
--- src/find.rt:43:9
 returns-3 : tie.Need-returns-3
 returns-3 c = λ L h. page-over (c .before .before .before .before .before .before .before .pre) L h _ _ _ (c .before .before .before .before .word .ensures) (c .before .before .before .item-size .ensures) (c .before .items-in-page .ensures) (omega arith) (omega arith)
 
--- src/find.rt:45:13
 sub-q : tie.Need-sub-q
 sub-q c = search needs
 
--- src/find.rt:46:8
 word-requires-2 : tie.Need-word-requires-2
 word-requires-2 c κs = search needs
 
--- src/find.rt:46:22
 mul-if4 : tie.Need-mul-if4
 mul-if4 c = search needs
 
--- src/find.rt:46:22
 add-if4 : tie.Need-add-if4
 add-if4 c = search needs
 
--- src/find.rt:47:9
 returns-4 : tie.Need-returns-4
 returns-4 c = λ L h. page-idle (c .before .before .before .before .before .before .before .before .before .pre) L h _ _ _ (c .before .before .before .before .before .before .word .ensures) (c .before .before .before .before .before .item-size .ensures) (c .before .before .before .items-in-page .ensures) (omega arith) (omega arith) (omega arith) _ (c .before .word2 .ensures) (c .if4 .taken)
 
--- src/find.rt:29:1
 returns-5 : tie.Need-returns-5
 returns-5 c = λ L h. page-held (c .before .before .before .before .before .before .before .before .before .pre) L h _ _ _ (c .before .before .before .before .before .before .word .ensures) (c .before .before .before .before .before .item-size .ensures) (c .before .before .before .items-in-page .ensures) (omega arith) (omega arith) (omega arith) _ (c .before .word2 .ensures) (c .if4 .left)
 

@@ -1,0 +1,25 @@
+// What is live at an address is given back.
+use crate::find::Live;
+use crate::find::find;
+use crate::items::give;
+use crate::release::release;
+ghost use Rattle.engine.specs.Free.{Freed, Lively};
+
+// Gives back what is live at a: true; or false where nothing is, and nothing changes.
+pub fn free(h: &mut [u8], a: usize) -> bool
+    requires { ⌜ Lively (now h) ⌝ }
+    ensures { λ r. ⌜ Freed (now (h .entry)) a r (now (h .exit)) ⌝ }
+{
+    let x = find(h, a);
+    match x {
+        Live::Nothing => false,
+        Live::Item(q, c) => {
+            give(h, q, c);
+            true
+        }
+        Live::Variable(b) => {
+            release(h, b);
+            true
+        }
+    }
+}
