@@ -1,0 +1,109 @@
+/* Does one call on a heap, once by the library and once by the twin, between marks that icount counts:
+   region 0 is ours, region 1 is the twin's. Both must answer alike and leave the same bytes.
+     bench HEAP-FILE CALL ADDRESS SIZE      (a number that the call does not take is 0)
+   HAVE_CHECK and the like say which calls the library has. */
+#include "twin.h"
+
+#include <count.h>
+#include <stdint.h>
+#include <stdio.h>
+#include <stdlib.h>
+#include <string.h>
+
+#define LONGEST 1048576
+
+uint64_t heap_check(uint8_t *h, size_t n);
+uint64_t heap_allocate(uint8_t *h, size_t n, uint64_t size);
+uint64_t heap_resize(uint8_t *h, size_t n, uint64_t address, uint64_t size);
+uint64_t heap_free(uint8_t *h, size_t n, uint64_t address);
+
+static _Alignas(64) uint8_t image[LONGEST];
+static _Alignas(64) uint8_t ours[LONGEST];
+static _Alignas(64) uint8_t twins[LONGEST];
+static size_t length;
+static uint64_t our_answer, twin_answer;
+
+static void fail(const char *why)
+{
+    fprintf(stderr, "bench: %s\n", why);
+    exit(2);
+}
+
+static void load(const char *path)
+{
+    FILE *file = fopen(path, "rb");
+
+    if (!file)
+        fail("no such heap");
+    length = fread(image, 1, LONGEST, file);
+    fclose(file);
+}
+
+static void refresh(void)
+{
+    memcpy(ours, image, length);
+    memcpy(twins, image, length);
+}
+
+#define MEASURE(region, answer, call) \
+    do {                              \
+        COUNT_BEGIN(region);          \
+        uint64_t counted = (call);    \
+        COUNT_HIDE(counted);          \
+        COUNT_END(region);            \
+        (answer) = counted;           \
+    } while (0)
+
+/* The first round is not counted: in it the loader finds the functions of the C library. */
+#define BOTH(our_call, twin_call)           \
+    do {                                    \
+        refresh();                          \
+        our_answer = (our_call);            \
+        twin_answer = (twin_call);          \
+        refresh();                          \
+        MEASURE(0, our_answer, our_call);   \
+        MEASURE(1, twin_answer, twin_call); \
+    } while (0)
+
+static void measure(const char *call, uint64_t address, uint64_t size)
+{
+    (void)address; /* a library with few calls has no use for these */
+    (void)size;
+#ifdef HAVE_CHECK
+    if (!strcmp(call, "check")) {
+        BOTH(heap_check(ours, length), twin_check(twins, length));
+        return;
+    }
+#endif
+#ifdef HAVE_ALLOCATE
+    if (!strcmp(call, "allocate")) {
+        BOTH(heap_allocate(ours, length, size), twin_allocate(twins, length, size));
+        return;
+    }
+#endif
+#ifdef HAVE_RESIZE
+    if (!strcmp(call, "resize")) {
+        BOTH(heap_resize(ours, length, address, size), twin_resize(twins, length, address, size));
+        return;
+    }
+#endif
+#ifdef HAVE_FREE
+    if (!strcmp(call, "free")) {
+        BOTH(heap_free(ours, length, address), twin_free(twins, length, address));
+        return;
+    }
+#endif
+    fail("no such call");
+}
+
+int main(int count, char **words)
+{
+    if (count != 5)
+        fail("HEAP-FILE CALL ADDRESS SIZE");
+    load(words[1]);
+    measure(words[2], strtoul(words[3], 0, 10), strtoul(words[4], 0, 10));
+    if (our_answer != twin_answer || memcmp(ours, twins, length) != 0)
+        fail("ours and the twin differ");
+    printf("%lu\n", our_answer);
+    return 0;
+}

@@ -1,0 +1,218 @@
+#!/usr/bin/env python3
+"""Counts the instructions of a library's heap calls against the plain C twin's.
+
+  table.py --library FILE.. [--prefix NAME] [--calls LIST] [--sizes LIST]
+
+Prints a Markdown table; the status is 1 if a count is over its limit. All that
+is built or fetched goes below target/. "--prefix twin_" without a library puts
+the twin on both sides.
+"""
+
+import argparse
+import os
+import random
+import subprocess
+import sys
+
+ROOT = os.path.dirname(os.path.dirname(os.path.abspath(__file__)))
+sys.path.insert(0, os.path.join(ROOT, "compare"))
+sys.dont_write_bytecode = True  # products belong below target/
+from second import CLASSES, NO_ROOM, VARIABLE, Heap  # noqa: E402
+
+PRODUCTS = os.path.join(ROOT, "target", "bench")
+CALLS = ("check", "allocate", "resize", "free")
+SIZES = (10000, 65536, 1048576)
+
+
+def limit(twin):
+    return 1.15 * twin + 300
+
+
+def fresh(length):
+    heap = Heap(bytearray(length))
+    heap.initialise()
+    return heap
+
+
+def nearly_empty(length):
+    """A few records, one of them a tenth of the heap."""
+    heap = fresh(length)
+    for size in (40, length // 10, 40, 300, 40):
+        heap.allocate(size)
+    return heap
+
+
+def full_of_blocks(length):
+    """Blocks of mixed sizes above 256; about a third is freed in scattered order."""
+    rng, heap, blocks = random.Random(1), fresh(length), []
+    heap.allocate(40)
+    while True:
+        refusal, address = heap.allocate(rng.randint(257, 900))
+        if refusal == NO_ROOM:
+            break
+        blocks.append(address)
+    for address in rng.sample(blocks, len(blocks) // 3):
+        heap.free(address)
+    return heap
+
+
+def full_of_items(length):
+    """A block, and then items of the smallest class; half of them are freed in scattered order."""
+    rng, heap, items = random.Random(1), fresh(length), []
+    heap.allocate(600)
+    while True:
+        refusal, address = heap.allocate(8)
+        if refusal == NO_ROOM:
+            break
+        items.append(address)
+    for address in rng.sample(items, len(items) // 2):
+        heap.free(address)
+    return heap
+
+
+KINDS = {"nearly empty": nearly_empty, "full of blocks": full_of_blocks, "full of items": full_of_items}
+
+
+def last(items):
+    """The last of some, or none: the farthest to find is the dearest."""
+    return max(items, default=None)
+
+
+def class_with_items(state):
+    """A class whose list is not empty."""
+    return next((c for c in range(CLASSES) if state.lists[c]), None)
+
+
+def empty_class(state):
+    return next((c for c in range(CLASSES) if not state.lists[c]), None)
+
+
+def block_with(heap, is_right):
+    """The address of the last variable block that a condition on position and size holds for."""
+    state = heap.state
+    return last(p + 8 for p in state.starts if state.blocks[p][0] == VARIABLE and is_right(p, state.blocks[p][1]))
+
+
+def allocations(heap):
+    state = heap.state
+    with_items, empty = class_with_items(state), empty_class(state)
+    if with_items is not None:
+        yield "allocate an item from its list", "allocate", 0, 8 * with_items + 8
+    if empty is not None:
+        yield "allocate an item, making a page", "allocate", 0, 8 * empty + 8
+    if state.free:
+        largest = max(state.blocks[p][1] for p in state.free)
+        yield "allocate a block", "allocate", 0, max(257, min(largest - 16, 500))
+
+
+def frees(heap):
+    item, block = last(heap.state.item_class), block_with(heap, lambda p, size: True)
+    if item:
+        yield "free an item", "free", item + 8, 0
+    if block:
+        yield "free a block", "free", block, 0
+
+
+def resizes(heap):
+    state = heap.state
+    item = last(state.item_class)
+    if item:
+        size = 8 * state.item_class[item] + 8
+        yield "resize an item, it stays", "resize", item + 8, size
+        yield "resize an item, it moves to a new page", "resize", item + 8, size + 200
+        yield "resize an item, it moves to a block", "resize", item + 8, 300
+    block = block_with(heap, lambda p, size: True)
+    if block:
+        yield "resize a block, it stays", "resize", block, state.capacity(block)
+    block = block_with(heap, lambda p, size: size >= 280 + 40)
+    if block:
+        yield "resize a block, it shrinks", "resize", block, state.capacity(block) - 40
+    block = block_with(heap, lambda p, size: state.is_free(p + size))
+    if block:
+        yield "resize a block, it grows", "resize", block, state.capacity(block) + 8
+    yield from moves_of_blocks(heap)
+
+
+def moves_of_blocks(heap):
+    """The largest block that cannot grow and finds room elsewhere."""
+    state = heap.state
+    largest_free = max((state.blocks[p][1] for p in state.free), default=0)
+    fits = [(size, p + 8) for p, (kind, size) in state.blocks.items()
+            if kind == VARIABLE and not state.is_free(p + size) and size + 8 <= largest_free]
+    if fits:
+        size, address = max(fits)
+        yield "resize a large block, it moves", "resize", address, size - 16 + 8
+
+
+def calls_on(heap):
+    """What is measured on a heap: (name, call, address, size), only what is granted."""
+    yield "check", "check", 0, 0
+    for sort in (allocations, frees, resizes):
+        for name, call, address, size in sort(heap):
+            trial = Heap(bytearray(heap.data))
+            arguments = {"allocate": (size,), "free": (address,), "resize": (address, size)}[call]
+            if getattr(trial, call)(*arguments)[0] == 0:
+                yield name, call, address, size
+
+
+def build(libraries, prefix, have):
+    program = os.path.join(PRODUCTS, "bench")
+    flags = " ".join(f"-DHAVE_{name.upper()} -Dheap_{name}={prefix}{name}" for name in have)
+    sources = [os.path.join(ROOT, "bench", name) for name in ("bench.c", "twin.c")]
+    subprocess.run([os.path.join(ROOT, "tools", "chost"), "-o", program, *sources, *libraries], check=True,
+                   env=dict(os.environ, CFLAGS=flags))
+    return program
+
+
+def count(program, path, call, address, size):
+    """The instructions of ours and of the twin."""
+    counted = os.path.join(PRODUCTS, "counted")
+    keep = os.environ.get("ICOUNT_DIR", os.path.join(ROOT, "target", "icount"))
+    subprocess.run([os.path.join(ROOT, "tools", "icount"), "-o", counted, program, path, call, str(address), str(size)],
+                   check=True, stdout=subprocess.DEVNULL, env=dict(os.environ, ICOUNT_DIR=keep))
+    regions = {}
+    with open(counted, encoding="ascii") as file:
+        for words in map(str.split, file):
+            if words[0] == "region":
+                regions[int(words[1])] = int(words[5])
+    return regions[0], regions[1]
+
+
+def rows(program, have, sizes):
+    for length in sizes:
+        for kind, make in KINDS.items():
+            heap = make(length)
+            path = os.path.join(PRODUCTS, f"{kind.replace(' ', '-')}-{length}.heap")
+            with open(path, "wb") as file:
+                file.write(heap.data)
+            for name, call, address, size in calls_on(heap):
+                if call in have:
+                    yield f"{length:,}, {kind}", name, *count(program, path, call, address, size)
+
+
+def options():
+    parser = argparse.ArgumentParser(description="Counts instructions against the plain C twin.")
+    parser.add_argument("--library", nargs="*", default=[], metavar="FILE", help=".a, .o or .c files with the calls")
+    parser.add_argument("--prefix", default="heap_", help="what the names of the calls begin with")
+    parser.add_argument("--calls", default=",".join(CALLS), help="the calls that the library has")
+    parser.add_argument("--sizes", default=",".join(map(str, SIZES)), help="lengths of the heaps")
+    return parser.parse_args()
+
+
+def main():
+    chosen = options()
+    have = chosen.calls.split(",")
+    os.makedirs(PRODUCTS, exist_ok=True)
+    program = build(chosen.library, chosen.prefix, have)
+    print("| heap | call | ours | twin | ratio | limit | |\n|---|---|---:|---:|---:|---:|---|")
+    over = 0
+    for heap, name, ours, twin in rows(program, have, map(int, chosen.sizes.split(","))):
+        kept = ours <= limit(twin)
+        over += not kept
+        print(f"| {heap} | {name} | {ours:,} | {twin:,} | {ours / twin:.2f} | {limit(twin):,.0f} | "
+              f"{'ok' if kept else 'OVER'} |", flush=True)
+    return 1 if over else 0
+
+
+if __name__ == "__main__":
+    sys.exit(main())

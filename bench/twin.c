@@ -1,0 +1,540 @@
+#include "twin.h"
+
+#include <stdbool.h>
+#include <string.h>
+
+enum {
+    SHORTEST = 344,
+    LONGEST = 1048576,
+    LARGEST_SIZE = 1048576,
+    LARGEST_ITEM = 256,
+    FIRST_FREE = 24,
+    STORED_END = 32,
+    INDEX_LOW_TAG = 40,
+    INDEX_PAGE = 48,
+    INDEX_HIGH_TAG = 304,
+    DATA_AREA = 312,
+    INDEX_TAG = 275,
+    CLASSES = 32,
+    SMALLEST_FREE = 32,
+    SMALLEST_VARIABLE = 280,
+    SMALLEST_PAGE = 4112
+};
+
+enum kind { FREE = 0, VARIABLE = 2, PAGE = 3 };
+
+enum refusal {
+    GRANTED,
+    BAD_LENGTH,
+    NO_HEAP,
+    NOT_SOUND,
+    BAD_SIZE,
+    BAD_ADDRESS,
+    NO_ROOM,
+    ALREADY
+};
+
+static const uint64_t MAGIC = 0x01636f6c6c617978;
+
+static uint64_t refuse(enum refusal number)
+{
+    return (uint64_t)number << 32;
+}
+
+static uint64_t get(const uint8_t *h, uint64_t position)
+{
+    uint64_t word;
+    memcpy(&word, h + position, 8);
+    return word;
+}
+
+static void put(uint8_t *h, uint64_t position, uint64_t word)
+{
+    memcpy(h + position, &word, 8);
+}
+
+static uint64_t end_of(size_t n)
+{
+    return n & ~(uint64_t)7;
+}
+
+/* Blocks. */
+
+static uint64_t kind_of(uint64_t tag)
+{
+    return tag & 7;
+}
+
+static uint64_t size_of(uint64_t tag)
+{
+    return tag & ~(uint64_t)7;
+}
+
+static uint64_t need_of(uint64_t size)
+{
+    return ((size + 7) & ~(uint64_t)7) + 16;
+}
+
+static uint64_t next_of(const uint8_t *h, uint64_t block)
+{
+    return get(h, block + 8);
+}
+
+static uint64_t previous_of(const uint8_t *h, uint64_t block)
+{
+    return get(h, block + size_of(get(h, block)) - 16);
+}
+
+static void put_tags(uint8_t *h, uint64_t block, uint64_t size, uint64_t kind)
+{
+    put(h, block, size + kind);
+    put(h, block + size - 8, size + kind);
+}
+
+/* Items. */
+
+static uint64_t class_of(uint64_t size)
+{
+    return (size - 1) / 8;
+}
+
+static uint64_t item_size(uint64_t class)
+{
+    return 8 * class + 16;
+}
+
+static uint64_t items_in_page(uint64_t class)
+{
+    return 4096 / item_size(class) + 1;
+}
+
+static uint64_t class_in(uint64_t header)
+{
+    return header / 4 % CLASSES;
+}
+
+static uint64_t next_in(uint64_t header)
+{
+    return header / 128 * 8;
+}
+
+static uint64_t free_header(uint64_t class, uint64_t next)
+{
+    return 16 * next + 4 * class + 1;
+}
+
+static uint64_t used_header(uint64_t class)
+{
+    return 4 * class + 3;
+}
+
+static uint64_t head_of(const uint8_t *h, uint64_t class)
+{
+    return get(h, INDEX_PAGE + 8 * class);
+}
+
+static void put_head(uint8_t *h, uint64_t class, uint64_t offset)
+{
+    put(h, INDEX_PAGE + 8 * class, offset);
+}
+
+/* The check. The map has one bit for each 8 bytes of the heap; a bit that is set marks a free item that no
+   list has shown yet. */
+
+struct marks {
+    uint64_t count;
+    uint64_t map[LONGEST / 512];
+};
+
+static bool fixed_words_right(const uint8_t *h, uint64_t end)
+{
+    return get(h, 8) == DATA_AREA && get(h, 16) == INDEX_PAGE && get(h, STORED_END) == end
+        && get(h, INDEX_LOW_TAG) == INDEX_TAG && get(h, INDEX_HIGH_TAG) == INDEX_TAG;
+}
+
+/* Whether a page is right; marks its free items. */
+static bool page_right(const uint8_t *h, uint64_t page, uint64_t size, struct marks *marks)
+{
+    uint64_t class = class_in(get(h, page + 8));
+    uint64_t step = item_size(class);
+    uint64_t used = used_header(class);
+    uint64_t free = free_header(class, 0);
+    uint64_t first = page + 8;
+    uint64_t stop = first + items_in_page(class) * step;
+    uint64_t count = 0;
+
+    if (page + size - 8 - stop > 24)
+        return false;
+    for (uint64_t item = first; item != stop; item += step) {
+        uint64_t header = get(h, item);
+        if (header == used)
+            continue;
+        if (header % 128 != free)
+            return false;
+        marks->map[item / 512] |= (uint64_t)1 << (item / 8 % 64);
+        count++;
+    }
+    marks->count += count;
+    return true;
+}
+
+/* Whether the blocks and the list of the free ones are right; marks the free items. */
+static bool blocks_right(const uint8_t *h, uint64_t end, struct marks *marks)
+{
+    uint64_t position = DATA_AREA;
+    uint64_t next_free = get(h, FIRST_FREE);
+    uint64_t previous_free = 0;
+    bool after_free = false;
+
+    while (position != end) {
+        uint64_t tag = get(h, position);
+        uint64_t size = size_of(tag);
+        if (size > end - position || size < SMALLEST_FREE || get(h, position + size - 8) != tag)
+            return false;
+        switch (kind_of(tag)) {
+        case FREE:
+            if (after_free || position != next_free || get(h, position + size - 16) != previous_free)
+                return false;
+            previous_free = position;
+            next_free = next_of(h, position);
+            after_free = true;
+            break;
+        case VARIABLE:
+            if (size < SMALLEST_VARIABLE)
+                return false;
+            after_free = false;
+            break;
+        case PAGE:
+            if (size < SMALLEST_PAGE || !page_right(h, position, size, marks))
+                return false;
+            after_free = false;
+            break;
+        default:
+            return false;
+        }
+        position += size;
+    }
+    return next_free == 0;
+}
+
+/* Whether the list of a class visits marked items of that class only; takes their marks away. */
+static bool list_right(const uint8_t *h, uint64_t end, uint64_t class, struct marks *marks)
+{
+    uint64_t offset = head_of(h, class);
+    uint64_t free = free_header(class, 0);
+
+    if (offset % 8 != 0)
+        return false;
+    while (offset != 0) {
+        if (offset >= end - INDEX_PAGE)
+            return false;
+        uint64_t item = offset + INDEX_PAGE;
+        uint64_t header = get(h, item);
+        uint64_t *word = &marks->map[item / 512];
+        uint64_t bit = (uint64_t)1 << (item / 8 % 64);
+        if (!(*word & bit) || header % 128 != free)
+            return false;
+        *word ^= bit;
+        marks->count--;
+        offset = next_in(header);
+    }
+    return true;
+}
+
+static bool is_sound(const uint8_t *h, uint64_t end)
+{
+    struct marks marks;
+
+    marks.count = 0;
+    memset(marks.map, 0, (end + 511) / 512 * 8);
+    if (!fixed_words_right(h, end) || !blocks_right(h, end, &marks))
+        return false;
+    for (uint64_t class = 0; class < CLASSES; class++)
+        if (!list_right(h, end, class, &marks))
+            return false;
+    return marks.count == 0;
+}
+
+uint64_t twin_check(uint8_t *h, size_t n)
+{
+    if (n < SHORTEST || n > LONGEST)
+        return refuse(BAD_LENGTH);
+    if (get(h, 0) != MAGIC)
+        return refuse(NO_HEAP);
+    return is_sound(h, end_of(n)) ? GRANTED : refuse(NOT_SOUND);
+}
+
+/* The free list. */
+
+static void link_free(uint8_t *h, uint64_t block, uint64_t size, uint64_t previous, uint64_t next)
+{
+    put_tags(h, block, size, FREE);
+    put(h, block + 8, next);
+    put(h, block + size - 16, previous);
+    put(h, previous ? previous + 8 : FIRST_FREE, block);
+    if (next)
+        put(h, next + size_of(get(h, next)) - 16, block);
+}
+
+static void unlink_free(uint8_t *h, uint64_t previous, uint64_t next)
+{
+    put(h, previous ? previous + 8 : FIRST_FREE, next);
+    if (next)
+        put(h, next + size_of(get(h, next)) - 16, previous);
+}
+
+/* Makes a used block out of "whole" free bytes, whose free block stood between two others in the list. */
+static void use(uint8_t *h, uint64_t block, uint64_t need, uint64_t whole, uint64_t kind, uint64_t previous,
+                uint64_t next)
+{
+    uint64_t rest = whole - need;
+
+    if (rest >= SMALLEST_FREE) {
+        link_free(h, block + need, rest, previous, next);
+        put_tags(h, block, need, kind);
+    } else {
+        unlink_free(h, previous, next);
+        put_tags(h, block, whole, kind);
+    }
+}
+
+/* The lowest free block that is large enough becomes a used one; 0 if there is none. */
+static uint64_t take_block(uint8_t *h, uint64_t need, uint64_t kind)
+{
+    uint64_t previous = 0;
+    uint64_t block = get(h, FIRST_FREE);
+
+    while (block != 0 && get(h, block) < need) {
+        previous = block;
+        block = next_of(h, block);
+    }
+    if (block != 0)
+        use(h, block, need, get(h, block), kind, previous, next_of(h, block));
+    return block;
+}
+
+/* Frees the bytes of a used block and joins them with free neighbours; "previous" is the last free block
+   before them. */
+static void release_block(uint8_t *h, uint64_t block, uint64_t size, uint64_t previous)
+{
+    uint64_t next = get(h, previous ? previous + 8 : FIRST_FREE);
+
+    if (next == block + size) {
+        size += get(h, next);
+        next = next_of(h, next);
+    }
+    if (previous != 0 && previous + get(h, previous) == block) {
+        size += block - previous;
+        block = previous;
+        previous = previous_of(h, block);
+    }
+    link_free(h, block, size, previous, next);
+}
+
+/* Items. */
+
+static bool make_page(uint8_t *h, uint64_t class)
+{
+    uint64_t step = item_size(class);
+    uint64_t bytes = items_in_page(class) * step;
+    uint64_t page = take_block(h, bytes + 16, PAGE);
+
+    if (page == 0)
+        return false;
+    uint64_t last = page + 8 + bytes - step;
+    for (uint64_t item = page + 8; item != last; item += step)
+        put(h, item, free_header(class, item + step - INDEX_PAGE));
+    put(h, last, free_header(class, 0));
+    put_head(h, class, page + 8 - INDEX_PAGE);
+    return true;
+}
+
+static uint64_t take_item(uint8_t *h, uint64_t class)
+{
+    if (head_of(h, class) == 0 && !make_page(h, class))
+        return 0;
+    uint64_t item = head_of(h, class) + INDEX_PAGE;
+    put_head(h, class, next_in(get(h, item)));
+    put(h, item, used_header(class));
+    return item + 8;
+}
+
+static void release_item(uint8_t *h, uint64_t item, uint64_t class)
+{
+    put(h, item, free_header(class, head_of(h, class)));
+    put_head(h, class, item - INDEX_PAGE);
+}
+
+/* Live payloads. */
+
+struct live {
+    bool found;
+    bool is_item;
+    uint64_t class;         /* of an item */
+    uint64_t block;         /* the block that the address is in */
+    uint64_t size;          /* of that block */
+    uint64_t previous_free; /* the last free block before it, 0 if none */
+};
+
+static void find_item(const uint8_t *h, struct live *live, uint64_t address)
+{
+    uint64_t class = class_in(get(h, live->block + 8));
+    uint64_t from_first = address - (live->block + 16); /* huge if the address is before the first item's */
+    uint64_t step = item_size(class);
+
+    live->is_item = true;
+    live->class = class;
+    live->found = from_first % step == 0 && from_first / step < items_in_page(class)
+        && get(h, address - 8) == used_header(class);
+}
+
+static struct live find(const uint8_t *h, uint64_t end, uint64_t address)
+{
+    struct live live = { false, false, 0, DATA_AREA, 0, 0 };
+
+    if (address < DATA_AREA || address >= end)
+        return live;
+    for (;;) {
+        uint64_t tag = get(h, live.block);
+        live.size = size_of(tag);
+        if (address < live.block + live.size) {
+            if (kind_of(tag) == VARIABLE)
+                live.found = address == live.block + 8;
+            else if (kind_of(tag) == PAGE)
+                find_item(h, &live, address);
+            return live;
+        }
+        if (kind_of(tag) == FREE)
+            live.previous_free = live.block;
+        live.block += live.size;
+    }
+}
+
+/* The rules. */
+
+static uint64_t allocate(uint8_t *h, uint64_t size)
+{
+    if (size <= LARGEST_ITEM)
+        return take_item(h, class_of(size));
+    uint64_t block = take_block(h, need_of(size), VARIABLE);
+    return block ? block + 8 : 0;
+}
+
+static void release(uint8_t *h, const struct live *live, uint64_t address)
+{
+    if (live->is_item)
+        release_item(h, address - 8, live->class);
+    else
+        release_block(h, live->block, live->size, live->previous_free);
+}
+
+/* Whether the record can stay where it is; if so it is shrunk or grown. */
+static bool resize_in_place(uint8_t *h, const struct live *live, uint64_t size)
+{
+    if (live->is_item)
+        return class_of(size) == live->class;
+    if (size <= LARGEST_ITEM)
+        return false;
+    uint64_t need = need_of(size);
+    if (need <= live->size) {
+        if (live->size - need >= SMALLEST_FREE) {
+            put_tags(h, live->block, need, VARIABLE);
+            release_block(h, live->block + need, live->size - need, live->previous_free);
+        }
+        return true;
+    }
+    uint64_t previous = live->previous_free;
+    uint64_t next = get(h, previous ? previous + 8 : FIRST_FREE);
+    if (next != live->block + live->size || live->size + get(h, next) < need)
+        return false;
+    use(h, live->block, need, live->size + get(h, next), VARIABLE, previous, next_of(h, next));
+    return true;
+}
+
+/* If the allocation took the free block before the old record, its rest or the one before it takes its place. */
+static void mend_previous(const uint8_t *h, struct live *live, uint64_t one_before)
+{
+    uint64_t taken = live->previous_free;
+
+    if (taken == 0 || kind_of(get(h, taken)) == FREE)
+        return;
+    uint64_t behind = taken + size_of(get(h, taken));
+    live->previous_free = kind_of(get(h, behind)) == FREE ? behind : one_before;
+}
+
+static uint64_t move(uint8_t *h, struct live *live, uint64_t address, uint64_t size)
+{
+    uint64_t capacity = live->is_item ? 8 * live->class + 8 : live->size - 16;
+    uint64_t one_before = live->previous_free ? previous_of(h, live->previous_free) : 0;
+    uint64_t new = allocate(h, size);
+
+    if (new == 0)
+        return 0;
+    memcpy(h + new, h + address, capacity < size ? capacity : size);
+    mend_previous(h, live, one_before);
+    release(h, live, address);
+    return new;
+}
+
+/* The calls. */
+
+uint64_t twin_initialise(uint8_t *h, size_t n)
+{
+    uint64_t end = end_of(n);
+
+    if (n < SHORTEST || n > LONGEST)
+        return refuse(BAD_LENGTH);
+    if (get(h, 0) == MAGIC)
+        return refuse(ALREADY);
+    put(h, 0, MAGIC);
+    put(h, 8, DATA_AREA);
+    put(h, 16, INDEX_PAGE);
+    put(h, STORED_END, end);
+    put(h, INDEX_LOW_TAG, INDEX_TAG);
+    memset(h + INDEX_PAGE, 0, 8 * CLASSES);
+    put(h, INDEX_HIGH_TAG, INDEX_TAG);
+    link_free(h, DATA_AREA, end - DATA_AREA, 0, 0);
+    return GRANTED;
+}
+
+uint64_t twin_allocate(uint8_t *h, size_t n, uint64_t size)
+{
+    uint64_t refused = twin_check(h, n);
+
+    if (refused)
+        return refused;
+    if (size == 0 || size > LARGEST_SIZE)
+        return refuse(BAD_SIZE);
+    uint64_t address = allocate(h, size);
+    return address ? address : refuse(NO_ROOM);
+}
+
+uint64_t twin_resize(uint8_t *h, size_t n, uint64_t address, uint64_t size)
+{
+    uint64_t refused = twin_check(h, n);
+
+    if (refused)
+        return refused;
+    if (size == 0 || size > LARGEST_SIZE)
+        return refuse(BAD_SIZE);
+    struct live live = find(h, end_of(n), address);
+    if (!live.found)
+        return refuse(BAD_ADDRESS);
+    if (resize_in_place(h, &live, size))
+        return address;
+    uint64_t new = move(h, &live, address, size);
+    return new ? new : refuse(NO_ROOM);
+}
+
+uint64_t twin_free(uint8_t *h, size_t n, uint64_t address)
+{
+    uint64_t refused = twin_check(h, n);
+
+    if (refused)
+        return refused;
+    struct live live = find(h, end_of(n), address);
+    if (!live.found)
+        return refuse(BAD_ADDRESS);
+    release(h, &live, address);
+    return GRANTED;
+}

@@ -1,0 +1,15 @@
+/* The heap of document 01 in plain C, as a yardstick for speed.
+   Each call answers refusal * 2^32 + address. */
+#ifndef TWIN_H
+#define TWIN_H
+
+#include <stddef.h>
+#include <stdint.h>
+
+uint64_t twin_initialise(uint8_t *h, size_t n);
+uint64_t twin_check(uint8_t *h, size_t n);
+uint64_t twin_allocate(uint8_t *h, size_t n, uint64_t size);
+uint64_t twin_resize(uint8_t *h, size_t n, uint64_t address, uint64_t size);
+uint64_t twin_free(uint8_t *h, size_t n, uint64_t address);
+
+#endif

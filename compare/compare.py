@@ -1,0 +1,283 @@
+#!/usr/bin/env python3
+"""Compares a library's heap calls with the second program, call by call and byte by byte.
+
+  compare.py --library FILE.. [--prefix NAME] [--calls LIST] [--seed S] [--number N] [--damaged D]
+  compare.py --library FILE.. --seed S --only KIND:INDEX
+
+"--library bench/twin.c --prefix twin_" compares the plain C twin. The driver is
+built below target/compare. A failure prints the calls up to the first one that
+differs, and the status is 1.
+"""
+
+import argparse
+import os
+import random
+import struct
+import subprocess
+import sys
+import tempfile
+import time
+
+sys.dont_write_bytecode = True  # products belong below target/
+from damage import damaged
+from runs import CALLS, Run, Player, random_run, sound_heap
+
+ROOT = os.path.dirname(os.path.dirname(os.path.abspath(__file__)))
+PRODUCTS = os.path.join(ROOT, "target", "compare")
+CHOST = os.path.join(ROOT, "tools", "chost")
+GUARD_FILL = b"\xa5"
+BATCH_BYTES = 16 << 20
+TIME_LIMIT = 120  # seconds for one batch, of which an emulator needs some
+HEAPS_FROM_ONE = 25  # damaged heaps made from the same sound one
+
+
+class Difference(Exception):
+    """Where and how the library differs."""
+
+    def __init__(self, run, index, lines):
+        super().__init__()
+        self.run, self.index, self.lines = run, index, lines
+
+
+def build_driver(libraries, prefix, have):
+    os.makedirs(PRODUCTS, exist_ok=True)
+    driver = os.path.join(PRODUCTS, "driver")
+    flags = " ".join(f"-DHAVE_{name.upper()} -Dheap_{name}={prefix}{name}" for name in have)
+    environment = dict(os.environ, CFLAGS=flags)
+    source = os.path.join(ROOT, "compare", "driver.c")
+    subprocess.run([CHOST, "-o", driver, source, *libraries], check=True, env=environment)
+    return driver
+
+
+class Driver:
+    """Sends whole batches of runs to the driver and holds the answers against the runs."""
+
+    def __init__(self, program):
+        self.program = program
+        self.batch, self.waiting = [], 0
+
+    def add(self, run):
+        self.batch.append(run)
+        self.waiting += len(run.commands)
+        if self.waiting > BATCH_BYTES:
+            self.finish()
+
+    def finish(self):
+        batch, self.batch, self.waiting = self.batch, [], 0
+        answers, status = self.execute(b"".join(run.commands for run in batch))
+        at = 0
+        for run in batch:
+            at = check_run(run, answers, at, status)
+        if status != 0 or at != len(answers):
+            raise SystemExit(f"compare: the driver ended with status {status}, {len(answers) - at} bytes too many")
+
+    def execute(self, commands):
+        """All answers, and the status of the driver or what stopped it."""
+        with tempfile.TemporaryFile() as given, tempfile.TemporaryFile() as taken:
+            given.write(commands)
+            given.seek(0)
+            try:
+                status = subprocess.run([CHOST, "-r", self.program], stdin=given, stdout=taken,
+                                        timeout=TIME_LIMIT).returncode
+            except subprocess.TimeoutExpired:
+                status = f"none within {TIME_LIMIT} s"
+            taken.seek(0)
+            return taken.read(), status
+
+
+def read_answer(answers, at):
+    """One call's answer, its changed ranges and where the next answer begins; raises if cut short."""
+    answer, count = struct.unpack_from("<QQ", answers, at)
+    at += 16
+    ranges = []
+    for _ in range(count):
+        offset, length = struct.unpack_from("<qQ", answers, at)
+        at += 16
+        ranges.append((offset, answers[at:at + length]))
+        at += length
+    return answer, ranges, at
+
+
+def split_range(length, offset, content):
+    """The part of a range inside the buffer, with its position, and what lies outside."""
+    start, stop = max(0, -offset), max(0, length - offset)
+    outside = content[:start] + content[stop:]
+    return offset + start, content[start:stop], outside
+
+
+def check_run(run, answers, at, status):
+    """Replays both sides and compares every byte after every call; answers where the run's answers end."""
+    wanted, got = bytearray(run.start), bytearray(run.start)
+    for index, (name, first, second, writes) in enumerate(run.steps):
+        if name == "poke":
+            wanted[first:first + len(second)] = got[first:first + len(second)] = second
+            continue
+        for position, content in writes:
+            wanted[position:position + len(content)] = content
+        try:
+            answer, ranges, at = read_answer(answers, at)
+        except struct.error:
+            raise Difference(run, index, [f"the call never answered (status of the driver: {status})"]) from None
+        outside = apply_ranges(got, ranges)
+        if answer != second or outside or wanted != got:
+            raise Difference(run, index, describe(second, answer, wanted, got, outside))
+    return at
+
+
+def apply_ranges(got, ranges):
+    """Brings the mirror up to date; whether the guards were written to."""
+    outside_changed = False
+    for offset, content in ranges:
+        position, inside, outside = split_range(len(got), offset, content)
+        got[position:position + len(inside)] = inside
+        outside_changed |= bool(outside.strip(GUARD_FILL))
+    return outside_changed
+
+
+def describe(expected, actual, wanted, got, outside):
+    lines = [f"expected: refusal {expected >> 32}, address {expected % 2**32}",
+             f"actual:   refusal {actual >> 32}, address {actual % 2**32}"]
+    if outside:
+        lines.append("bytes outside the lent buffer were changed")
+    differing = [p for p in range(0, len(wanted), 8) if wanted[p:p + 8] != got[p:p + 8]]
+    for position in differing[:10]:
+        words = [int.from_bytes(side[position:position + 8], "little") for side in (wanted, got)]
+        lines.append(f"word at {position}: expected {words[0]}, actual {words[1]}")
+    if len(differing) > 10:
+        lines.append(f"and {len(differing) - 10} more words")
+    return lines
+
+
+def report(difference, seed):
+    run, last = difference.run, difference.index
+    path = os.path.join(PRODUCTS, "failed.heap")
+    with open(path, "wb") as file:
+        file.write(run.start)
+    print(f"compare: seed {seed}, {run.label} ({run.origin}): a difference at the last of these steps")
+    print(f"  heap of {len(run.start)} bytes, as in target/compare/failed.heap")
+    for name, first, second, _ in run.steps[:last + 1]:
+        if name == "poke":
+            print(f"  poke {first} {second.hex()}")
+        else:
+            print(f"  {name} {' '.join(map(str, first))} -> {second >> 32} {second % 2**32}")
+    for line in difference.lines:
+        print(line)
+    print(f"again: --seed {seed} --only {run.label}")
+
+
+def generator(seed, label):
+    """A run's own source of chance, so that it can be made again alone."""
+    return random.Random(f"{seed} {label}")
+
+
+def check_second(run):
+    """The second program's kept heap must be what its bytes say."""
+    kept, verdict = run.heap.state, run.heap.verdict
+    run.heap.decode()
+    if verdict != run.heap.verdict or kept != run.heap.state:
+        raise SystemExit(f"compare: {run.label}: the second program lost track of its own heap")
+
+
+def random_runs(seed, have, number, counts):
+    """Runs until there are this many calls."""
+    index = 0
+    while counts["calls"] < number:
+        label = f"run:{index}"
+        run = random_run(generator(seed, label), label, have)
+        check_second(run)
+        counts["calls"] += run.calls
+        counts["heaps"] += 1
+        index += 1
+        yield run
+
+
+def damaged_runs(rng, label, have, count, counts):
+    """Some damaged heaps made from one sound heap, each with all the calls."""
+    low, high = rng.choices(((344, 4600), (4600, 30000), (150000, 1048576)), (10, 88, 2))[0]
+    length = rng.randint(low, high)
+    large = length > 30000
+    base = sound_heap(rng, length)
+    for _ in range(2 if large else count):
+        name, data, stays_sound = damaged(rng, base)
+        run = Run(label, data, rng.randrange(8), have, name)
+        still_sound = run.heap.verdict == 0
+        if stays_sound not in (None, still_sound):
+            raise SystemExit(f"compare: {label} ({name}): the second program says {run.heap.verdict}")
+        calls_on_damaged(rng, run)
+        counts["damaged"] += 1
+        counts["still sound"] += still_sound
+        yield run
+
+
+def calls_on_damaged(rng, run):
+    player = Player(rng, run)
+    run.call("check")
+    calls = [player.allocate, player.resize, player.free, player.allocate, player.resize, player.free]
+    rng.shuffle(calls)
+    for call in calls:
+        call()
+    run.call("initialise")
+    run.call("check")
+
+
+def all_damaged_runs(seed, have, number, counts):
+    group = 0
+    while counts["damaged"] < number:
+        label = f"damaged:{group}"
+        for run in damaged_runs(generator(seed, label), label, have, HEAPS_FROM_ONE, counts):
+            counts["calls"] += run.calls
+            yield run
+        group += 1
+
+
+def one_run(seed, have, label, counts):
+    """The run, or the damaged heaps, of one label alone."""
+    rng = generator(seed, label)
+    if label.startswith("run:"):
+        yield random_run(rng, label, have)
+    else:
+        yield from damaged_runs(rng, label, have, HEAPS_FROM_ONE, counts)
+
+
+def options():
+    parser = argparse.ArgumentParser(description="Compares a library's heap calls with the second program.")
+    parser.add_argument("--library", nargs="+", required=True, metavar="FILE", help=".a, .o or .c files with the calls")
+    parser.add_argument("--prefix", default="heap_", help="what the names of the calls begin with")
+    parser.add_argument("--calls", default=",".join(CALLS), help="the calls that the library has")
+    parser.add_argument("--seed", default="1")
+    parser.add_argument("--number", type=int, default=100000, help="calls in random runs")
+    parser.add_argument("--damaged", type=int, default=5000, help="damaged heaps")
+    parser.add_argument("--only", metavar="KIND:INDEX", help="one run again, as a failure names it")
+    chosen = parser.parse_args()
+    chosen.calls = chosen.calls.split(",")
+    unknown = set(chosen.calls) - set(CALLS)
+    if unknown:
+        parser.error("no such call: " + ", ".join(sorted(unknown)))
+    return chosen
+
+
+def main():
+    chosen = options()
+    began = time.monotonic()
+    counts = {"calls": 0, "heaps": 0, "damaged": 0, "still sound": 0}
+    driver = Driver(build_driver(chosen.library, chosen.prefix, chosen.calls))
+    try:
+        if chosen.only:
+            for run in one_run(chosen.seed, chosen.calls, chosen.only, counts):
+                driver.add(run)
+        else:
+            for run in random_runs(chosen.seed, chosen.calls, chosen.number, counts):
+                driver.add(run)
+            for run in all_damaged_runs(chosen.seed, chosen.calls, chosen.damaged, counts):
+                driver.add(run)
+        driver.finish()
+    except Difference as difference:
+        report(difference, chosen.seed)
+        return 1
+    print(f"compare: seed {chosen.seed}: {counts['calls']} calls on {counts['heaps']} heaps and {counts['damaged']} "
+          f"damaged heaps ({counts['still sound']} of them still sound) agree, {time.monotonic() - began:.0f} s")
+    return 0
+
+
+if __name__ == "__main__":
+    sys.exit(main())

@@ -1,0 +1,192 @@
+/* Runs a stream of commands from standard input against the library's heap calls and writes, for each
+   call, its answer and every changed range of bytes, also outside the lent buffer.
+
+   Commands, all numbers 8-byte little-endian words:
+     S shift length BYTES   the lent buffer is now these bytes, at an address that is "shift" past a multiple of 8
+     P offset count BYTES   writes into the buffer
+     I / C                  initialise / check
+     A size                 allocate
+     R address size         resize
+     F address              free
+   Answer to each of I, C, A, R and F: the call's answer, the number of ranges, and for each range its
+   offset from the buffer's start (as a signed number), its length and its new bytes. Outside the buffer all
+   bytes are FILL until a call changes them.
+
+   HAVE_INITIALISE and the like say which calls the library has. */
+#include <stdint.h>
+#include <stdio.h>
+#include <stdlib.h>
+#include <string.h>
+
+#define LONGEST 1048640
+#define GUARD 64
+#define FILL 0xa5
+
+uint64_t heap_initialise(uint8_t *h, size_t n);
+uint64_t heap_check(uint8_t *h, size_t n);
+uint64_t heap_allocate(uint8_t *h, size_t n, uint64_t size);
+uint64_t heap_resize(uint8_t *h, size_t n, uint64_t address, uint64_t size);
+uint64_t heap_free(uint8_t *h, size_t n, uint64_t address);
+
+static _Alignas(8) uint8_t arena[GUARD + 8 + LONGEST + GUARD + 8];
+static _Alignas(8) uint8_t shadow[sizeof arena];
+static uint8_t *heap = arena + GUARD;
+static uint64_t length;
+
+static void fail(const char *why)
+{
+    fprintf(stderr, "driver: %s\n", why);
+    exit(2);
+}
+
+static void read_bytes(uint8_t *to, uint64_t count)
+{
+    if (fread(to, 1, count, stdin) != count)
+        fail("a command is cut short");
+}
+
+static uint64_t read_word(void)
+{
+    uint64_t word;
+    read_bytes((uint8_t *)&word, 8);
+    return word;
+}
+
+static void write_word(uint64_t word)
+{
+    fwrite(&word, 1, 8, stdout);
+}
+
+/* The bytes that are watched: the buffer and a guard on either side. */
+static size_t used_arena(void)
+{
+    return ((size_t)(heap - arena) + length + GUARD + 7) / 8 * 8;
+}
+
+static void set_heap(void)
+{
+    uint64_t shift = read_word();
+
+    length = read_word();
+    if (shift > 7 || length > LONGEST)
+        fail("no such buffer");
+    heap = arena + GUARD + shift;
+    memset(arena, FILL, used_arena());
+    read_bytes(heap, length);
+    memcpy(shadow, arena, used_arena());
+}
+
+static void poke(void)
+{
+    uint64_t offset = read_word();
+    uint64_t count = read_word();
+
+    if (offset > length || count > length - offset)
+        fail("a poke outside the buffer");
+    read_bytes(heap + offset, count);
+    memcpy(shadow + (heap - arena) + offset, heap + offset, count);
+}
+
+static int word_changed(size_t at)
+{
+    return memcmp(arena + at, shadow + at, 8) != 0;
+}
+
+/* Where the next changed word is from here on, or the end. */
+static size_t next_change(size_t at, size_t end)
+{
+    while (at < end && !word_changed(at))
+        at += 8;
+    return at;
+}
+
+/* Where the run of changed words that begins here ends. */
+static size_t change_end(size_t at, size_t end)
+{
+    while (at < end && word_changed(at))
+        at += 8;
+    return at;
+}
+
+static uint64_t count_changes(size_t end)
+{
+    uint64_t count = 0;
+
+    for (size_t at = next_change(0, end); at < end; at = next_change(change_end(at, end), end))
+        count++;
+    return count;
+}
+
+static void write_changes(void)
+{
+    size_t end = used_arena();
+    size_t stop;
+
+    write_word(count_changes(end));
+    for (size_t at = next_change(0, end); at < end; at = next_change(stop, end)) {
+        stop = change_end(at, end);
+        write_word((uint64_t)at - (uint64_t)(heap - arena));
+        write_word(stop - at);
+        fwrite(arena + at, 1, stop - at, stdout);
+        memcpy(shadow + at, arena + at, stop - at);
+    }
+}
+
+/* Each answer is flushed, so that a call that never comes back is known by what is missing. */
+static void answer(uint64_t result)
+{
+    write_word(result);
+    write_changes();
+    fflush(stdout);
+}
+
+static void call(int command)
+{
+    switch (command) {
+#ifdef HAVE_INITIALISE
+    case 'I':
+        answer(heap_initialise(heap, length));
+        break;
+#endif
+#ifdef HAVE_CHECK
+    case 'C':
+        answer(heap_check(heap, length));
+        break;
+#endif
+#ifdef HAVE_ALLOCATE
+    case 'A':
+        answer(heap_allocate(heap, length, read_word()));
+        break;
+#endif
+#ifdef HAVE_RESIZE
+    case 'R': {
+        uint64_t address = read_word();
+        uint64_t size = read_word();
+        answer(heap_resize(heap, length, address, size));
+        break;
+    }
+#endif
+#ifdef HAVE_FREE
+    case 'F':
+        answer(heap_free(heap, length, read_word()));
+        break;
+#endif
+    default:
+        fail("no such command");
+    }
+}
+
+int main(void)
+{
+    int command;
+
+    while ((command = getchar()) != EOF) {
+        if (command == 'S')
+            set_heap();
+        else if (command == 'P')
+            poke();
+        else
+            call(command);
+    }
+    return 0;
+}

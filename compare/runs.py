@@ -1,0 +1,371 @@
+"""Random runs of calls, recorded as commands for the driver with the second program's answers."""
+
+import struct
+
+from second import (CLASSES, DATA_AREA, FREE, LARGEST_ITEM, LONGEST, MAGIC, NO_ROOM, PAGE, SHORTEST, VARIABLE, WORD,
+                    Heap, State, class_of, end_of, item_size, items_in_page)
+
+CALLS = {"initialise": b"I", "check": b"C", "allocate": b"A", "resize": b"R", "free": b"F"}
+BAD_SIZES = (0, 1048577, 2**32, 2**32 + 16, 2**63, 2**64 - 24, 2**64 - 8, 2**64 - 1)
+EDGE_SIZES = (1, 7, 8, 9, 16, 17, 247, 248, 249, 255, 256, 257, 258, 263, 264, 265, 272, 273, 1048576)
+BAD_LENGTHS = (0, 1, 8, 47, 312, 343, 1048577, 1048584, 1048600)
+
+
+class Run:
+    """One lent buffer and what is done to it, in order.
+
+    A step is (call, arguments, answer, writes) or ("poke", position, bytes, None).
+    """
+
+    def __init__(self, label, start, shift, have, origin):
+        self.label = label
+        self.origin = origin  # what the bytes at the start are, in a word
+        self.start = bytes(start)
+        self.have = have
+        self.heap = Heap(bytearray(start))
+        self.steps = []
+        self.calls = 0
+        self.commands = bytearray(struct.pack("<cQQ", b"S", shift, len(start)) + self.start)
+
+    def call(self, name, *arguments):
+        """Lets the second program answer; a library without this call is told the bytes instead."""
+        refusal, address = getattr(self.heap, name)(*arguments)
+        writes, self.heap.writes = self.heap.writes, []
+        if name in self.have:
+            self.commands += CALLS[name] + b"".join(map(WORD.pack, arguments))
+            self.steps.append((name, arguments, refusal << 32 | address, writes))
+            self.calls += 1
+        else:
+            for position, content in writes:
+                self.poke(position, content)
+        return refusal, address
+
+    def poke(self, position, content):
+        """Writes bytes from outside; the caller sees to decoding where it is needed."""
+        self.heap.data[position:position + len(content)] = content
+        self.commands += struct.pack("<cQQ", b"P", position, len(content)) + content
+        self.steps.append(("poke", position, content, None))
+
+
+def random_length(rng):
+    """A length that may be lent, with all the borders that 01 names well hit."""
+    low, high = rng.choices(
+        ((SHORTEST, 700), (4430, 4570), (5000, 20000), (20000, 131072), (131072, LONGEST), (LONGEST - 8, LONGEST)),
+        (15, 15, 35, 20, 8, 5))[0]
+    return rng.randint(low, high)
+
+
+def garbage(rng, length):
+    """What a lent buffer may hold before it is initialised."""
+    kind = rng.randrange(5)
+    if kind == 0:
+        return bytes(length)
+    if kind == 1:
+        return b"\xff" * length
+    content = rng.randbytes(length)
+    if kind == 2:
+        content = (MAGIC + content[8:])[:length]
+    elif kind == 3:
+        content = (MAGIC[:7] + b"\x02" + content[8:])[:length]
+    return content
+
+
+def free_interior(rng, state, length):
+    """A stretch of bytes, inside a free block or behind the end, that may be anything."""
+    if state.free and rng.random() < 0.8:
+        position = rng.choice(state.free)
+        return position + 16, state.blocks[position][1] - 32
+    return state.end, length - state.end
+
+
+def forged_words(rng, state):
+    """Words that look like tags, headers and links of this heap."""
+    position = rng.choice(state.starts)
+    kind, size = state.blocks[position]
+    words = (size + kind, size, size + 3, position, position - 48, 4 * rng.randrange(32) + rng.choice((1, 3)),
+             16 * (position - 40) + 4 * rng.randrange(32) + 1, 275, 0, 2**64 - 8)
+    return b"".join(WORD.pack(rng.choice(words)) for _ in range(rng.randint(1, 6)))
+
+
+FILLING, DRAINING = (80, 10, 10), (10, 20, 70)
+MOODS = (FILLING, DRAINING, (40, 20, 40), (20, 60, 20))  # how likely allocate, resize and free are
+
+
+class Player:
+    """Plays random calls on a run."""
+
+    def __init__(self, rng, run):
+        self.rng = rng
+        self.run = run
+        self.live = []
+        self.place = {}  # address -> its index in live
+        self.dead = [0]
+        self.forged = [0]  # addresses behind a forged header or tag
+        self.check_share = 0.02 if "allocate" in run.have else 0.5
+        self.set_mood(FILLING)
+        self.class_of_run = rng.randrange(CLASSES)
+        self.size_makers = rng.choice((
+            (self.small,), (self.one_class,), (self.block,), (self.small, self.block), (self.edge, self.fit),
+            (self.block, self.large, self.fit), (self.one_class, self.one_class, self.block, self.fit),
+            (self.small, self.one_class, self.edge, self.block, self.large, self.fit)))
+        for address in run.heap.state.live_addresses() if run.heap.state else ():
+            self.add(address)
+
+    def set_mood(self, weights):
+        self.weights = weights
+        self.mood_ends = self.rng.randint(10, 150)
+
+    # Sizes.
+
+    def small(self):
+        return self.rng.randint(1, 256)
+
+    def one_class(self):
+        return 8 * self.class_of_run + self.rng.randint(1, 8)
+
+    def edge(self):
+        return self.rng.choice(EDGE_SIZES)
+
+    def block(self):
+        return self.rng.randint(257, 2000)
+
+    def large(self):
+        return self.rng.randint(257, max(300, len(self.run.heap.data) // self.rng.choice((1, 4, 20))))
+
+    def fit(self):
+        """A size that just fits a free block, or leaves or lacks a little."""
+        state = self.run.heap.state
+        if not state or not state.free:
+            return self.block()
+        whole = state.blocks[self.rng.choice(state.free)][1]
+        return self.near(whole - 16)
+
+    def near(self, capacity):
+        less = self.rng.choice((-8, 0, 0, 8, 16, 24, 32, 40))
+        return max(1, capacity - less - self.rng.randrange(8))
+
+    def size(self):
+        if self.rng.random() < 0.02:
+            return self.rng.choice(BAD_SIZES)
+        return self.rng.choice(self.size_makers)()
+
+    def new_size(self, address):
+        """A size for a resize: near the old one, near what is there with the right neighbour, or any."""
+        state = self.run.heap.state
+        capacity = state.capacity(address) if state else None
+        if capacity is None or self.rng.random() < 0.4:
+            return self.size()
+        right = address + capacity + 8
+        if self.rng.random() < 0.5 and state.is_free(right):
+            capacity += state.blocks[right][1]
+        return self.near(capacity)
+
+    # Addresses.
+
+    def address(self):
+        if self.live and self.rng.random() < 0.93:
+            return self.rng.choice(self.live)
+        return self.wrong_address()
+
+    def wrong_address(self):
+        rng, data = self.rng, self.run.heap.data
+        near = rng.choice(self.live or [320]) + rng.choice((-16, -8, -1, 1, 8, 16, 24, 2**32, 2**63))
+        anywhere = rng.randrange(len(data) + 16)
+        choices = [near, near, anywhere, anywhere // 8 * 8, 2**64 - 1, 2**64 - 8, 48, DATA_AREA, len(data),
+                   end_of(len(data)), *self.dead[-4:], *self.forged[-4:]]
+        if self.run.heap.state:
+            choices += self.structure_addresses(self.run.heap.state)
+        return rng.choice(choices)
+
+    def structure_addresses(self, state):
+        """Addresses that belong to a block, a page or a free item, but are no live payload's."""
+        position = self.rng.choice(state.starts)
+        found = [position, position + 8, position + 16]
+        if state.page_class:
+            page = self.rng.choice(list(state.page_class))
+            items = state.items_of_page(page)
+            found += [page, page + 8, self.rng.choice(items) + 8, items.stop + 8]
+        free_items = state.lists[self.class_of_run]
+        return found + [item + 8 for item in free_items[-2:]]
+
+    def add(self, address):
+        self.place[address] = len(self.live)
+        self.live.append(address)
+
+    def remove(self, address):
+        index, last = self.place.pop(address), self.live.pop()
+        if last != address:
+            self.live[index] = last
+            self.place[last] = index
+        self.dead = self.dead[-20:] + [address]
+
+    # Calls.
+
+    def allocate(self):
+        refusal, address = self.run.call("allocate", self.size())
+        if not refusal:
+            self.add(address)
+        elif refusal == NO_ROOM:
+            self.mood_ends -= 10
+
+    def resize(self):
+        address = self.address()
+        refusal, new = self.run.call("resize", address, self.new_size(address))
+        if not refusal and new != address:
+            self.remove(address)
+            self.add(new)
+
+    def free(self):
+        address = self.address()
+        refusal, _ = self.run.call("free", address)
+        if not refusal:
+            self.remove(address)
+
+    def poke_forged(self):
+        """Puts into a live payload what stands before a payload of its kind."""
+        start = self.rng.choice(self.live)
+        room = self.run.heap.state.capacity(start)
+        offset = 8 * self.rng.randrange(room // 8)
+        word = 4 * class_of(room) + 3 if room <= LARGEST_ITEM else room + 16 + VARIABLE
+        self.run.poke(start + offset, WORD.pack(word))
+        self.forged = self.forged[-20:] + [start + offset + 8]
+
+    def poke_spare_bytes(self):
+        """Makes the spare bytes of a page, if it has any, look like one more item in use."""
+        state = self.run.heap.state
+        page = self.rng.choice(list(state.page_class))
+        start, stop = state.items_of_page(page).stop, page + state.blocks[page][1] - 8
+        if start != stop:
+            self.run.poke(start, WORD.pack(4 * state.page_class[page] + 3) * ((stop - start) // 8))
+
+    def poke_any(self):
+        """Writes into a live payload or into other bytes that may be anything."""
+        rng, heap = self.rng, self.run.heap
+        if self.live and rng.random() < 0.8:
+            start = rng.choice(self.live)
+            room = heap.state.capacity(start)
+        else:
+            start, room = free_interior(rng, heap.state, len(heap.data))
+        content = forged_words(rng, heap.state) if rng.random() < 0.5 else rng.randbytes(rng.randint(1, 80))
+        offset = rng.randrange(max(1, room - len(content) + 1))
+        if rng.random() < 0.5:
+            offset = offset // 8 * 8
+        content = content[:max(0, room - offset)]
+        if content:
+            self.run.poke(start + offset, content)
+
+    def poke(self):
+        chance = self.rng.random()
+        if chance < 0.05 and self.run.heap.state.page_class:
+            self.poke_spare_bytes()
+        elif chance < 0.15 and self.live:
+            self.poke_forged()
+        else:
+            self.poke_any()
+
+    def play(self, count):
+        rng = self.rng
+        for _ in range(count):
+            self.mood_ends -= 1
+            if self.mood_ends < 0:
+                self.set_mood(rng.choice(MOODS) if self.live else FILLING)
+            if self.run.heap.state and rng.random() < 0.3:
+                self.poke()
+            if rng.random() < self.check_share:
+                self.run.call(rng.choice(("check", "initialise" if self.run.heap.state else "check")))
+            rng.choices((self.allocate, self.resize, self.free), self.weights)[0]()
+            if not self.live:
+                self.set_mood(FILLING)
+
+    def begin(self):
+        """Some calls on whatever the buffer holds, and then a fresh heap."""
+        run = self.run
+        run.call("check")
+        self.play(self.rng.randrange(4))
+        run.call("initialise")
+        if run.heap.verdict == 0 or not SHORTEST <= len(run.heap.data) <= LONGEST:
+            return
+        self.play(self.rng.randrange(4))
+        run.poke(self.rng.randrange(8), b"\x00")
+        run.heap.decode()
+        run.call("initialise")
+
+
+def invented_block(rng, taste, classes, after_free):
+    """The kind and the size of a block, and the class if it is a page."""
+    kind = rng.choices((FREE, VARIABLE, PAGE), taste)[0]
+    if kind == FREE and not after_free:
+        return FREE, 8 * rng.choice((4, 5, 6, 36, rng.randint(4, 100))), None
+    if kind == PAGE:
+        c = rng.choice(classes)
+        return PAGE, items_in_page(c) * item_size(c) + 16 + rng.choice((0, 8, 16, 24)), c
+    return VARIABLE, 8 * rng.choice((35, rng.randint(35, 50), rng.randint(35, 300))), None
+
+
+def invented_page(rng, state, page, c, share_in_use):
+    state.page_class[page] = c
+    for item in state.items_of_page(page):
+        if rng.random() < share_in_use:
+            state.item_class[item] = c
+        else:
+            state.lists[c].append(item)
+
+
+def invented_state(rng, end):
+    """Any sound heap, not only one that calls can lead to."""
+    state = State(end)
+    taste = rng.choice(((1, 1, 1), (1, 2, 0), (1, 6, 1), (0, 1, 1), (0, 0, 1), (1, 20, 20)))
+    classes = rng.choices(range(CLASSES), k=rng.choice((1, 2, 4, 40)))
+    share_in_use = rng.choice((0, 0.1, 0.5, 0.9, 1))
+    position, after_free = DATA_AREA, False
+    while position != end:
+        kind, size, c = invented_block(rng, taste, classes, after_free)
+        left = end - position
+        if size != left and size + 560 > left:  # what is left must hold a block that may stand there
+            kind, size = (VARIABLE if after_free or rng.random() < 0.5 and left >= 280 else FREE), left
+        state.add_block(position, kind, size)
+        if kind == PAGE:
+            invented_page(rng, state, position, c, share_in_use)
+        position, after_free = position + size, kind == FREE
+    for items in state.lists:
+        rng.shuffle(items)
+    return state
+
+
+def invented_heap(rng, length):
+    """The bytes of any sound heap, with garbage wherever bytes may be anything."""
+    heap = Heap(bytearray(rng.randbytes(length)))
+    heap.initialise()
+    heap.state = invented_state(rng, end_of(length))
+    heap.lay_out_whole()
+    return bytes(heap.data)
+
+
+def played_heap(rng, length, count):
+    """The bytes of a heap after a random run of this many calls."""
+    run = Run("", garbage(rng, length), 0, (), "garbage")
+    player = Player(rng, run)
+    player.begin()
+    player.play(count)
+    return bytes(run.heap.data)
+
+
+def sound_heap(rng, length):
+    if rng.random() < 0.5:
+        return invented_heap(rng, length)
+    return played_heap(rng, length, rng.randint(50, 500))
+
+
+def random_run(rng, label, have):
+    """A run over one buffer, from garbage or from any sound heap on."""
+    bad = rng.random() < 0.05
+    length = rng.choice(BAD_LENGTHS) if bad else random_length(rng)
+    invented = not bad and rng.random() < 0.3
+    start = invented_heap(rng, length) if invented else garbage(rng, length)
+    run = Run(label, start, rng.randrange(8), have, "sound heap" if invented else "garbage")
+    player = Player(rng, run)
+    if not invented:
+        player.begin()
+    player.play(10 if bad else rng.randint(50, min(1500, 100 + length // 20)))
+    run.call("check")
+    return run

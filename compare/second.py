@@ -1,0 +1,654 @@
+#!/usr/bin/env python3
+"""A second, independent program for the heap of document 01.
+
+It keeps the heap as an abstract thing: blocks in order, pages with items, one
+list of free items for each class. The rules of 01 work on that. After each rule
+the parts that it changed are laid out over the old bytes, so every byte that no
+rule names stays as it was.
+
+Run alone, it checks the figures of 01 and prints how many there were.
+"""
+
+import bisect
+import struct
+
+MAGIC = bytes.fromhex("7879616c6c6f6301")
+SHORTEST, LONGEST = 344, 1048576
+LARGEST_SIZE = 1048576
+LARGEST_ITEM = 256
+INDEX_PAGE, DATA_AREA = 48, 312
+FIRST_FREE, STORED_END = 24, 32
+INDEX_TAG = 275
+CLASSES = 32
+FREE, VARIABLE, PAGE = 0, 2, 3
+SMALLEST_FREE, SMALLEST_VARIABLE = 32, 280
+ITEM_FREE, ITEM_IN_USE = 1, 3
+
+GRANTED, BAD_LENGTH, NO_HEAP, NOT_SOUND, BAD_SIZE, BAD_ADDRESS, NO_ROOM, ALREADY = range(8)
+
+WORD = struct.Struct("<Q")
+END_OF_WALK = ("end", 0, 0)
+
+
+def round_up(size):
+    return (size + 7) // 8 * 8
+
+
+def end_of(length):
+    return length // 8 * 8
+
+
+def class_of(size):
+    return (size - 1) // 8
+
+
+def item_size(c):
+    return 8 * c + 16
+
+
+def items_in_page(c):
+    return 4096 // item_size(c) + 1
+
+
+def word_at(data, position):
+    return WORD.unpack_from(data, position)[0]
+
+
+class Unsound(Exception):
+    """Says which sentence of "A sound heap" does not hold."""
+
+
+def require(condition, what):
+    if not condition:
+        raise Unsound(what)
+
+
+class State:
+    """The abstract heap. It knows nothing of bytes."""
+
+    def __init__(self, end):
+        self.end = end
+        self.starts = []  # positions of all blocks, rising
+        self.blocks = {}  # position -> (kind, size)
+        self.page_class = {}  # position of a page -> class
+        self.free = []  # positions of the free blocks, rising
+        self.lists = [[] for _ in range(CLASSES)]  # item positions, the first item last
+        self.item_class = {}  # position of an item in use -> class
+
+    def __eq__(self, other):
+        return self.__dict__ == other.__dict__
+
+    def add_block(self, position, kind, size):
+        bisect.insort(self.starts, position)
+        self.blocks[position] = (kind, size)
+        if kind == FREE:
+            bisect.insort(self.free, position)
+
+    def remove_block(self, position):
+        del self.starts[bisect.bisect_left(self.starts, position)]
+        kind, size = self.blocks.pop(position)
+        if kind == FREE:
+            del self.free[bisect.bisect_left(self.free, position)]
+        return kind, size
+
+    def block_before(self, position):
+        """The block that ends at this position, or none."""
+        index = bisect.bisect_left(self.starts, position)
+        return self.starts[index - 1] if index else None
+
+    def is_free(self, position):
+        return self.blocks.get(position, (None, 0))[0] == FREE
+
+    def free_neighbours(self, position):
+        """The free blocks before and after this free one, 0 where none."""
+        index = bisect.bisect_left(self.free, position)
+        before = self.free[index - 1] if index else 0
+        after = self.free[index + 1] if index + 1 < len(self.free) else 0
+        return before, after
+
+    def lowest_fit(self, size):
+        return next((p for p in self.free if self.blocks[p][1] >= size), None)
+
+    def items_of_page(self, position):
+        c = self.page_class[position]
+        first = position + 8
+        return range(first, first + items_in_page(c) * item_size(c), item_size(c))
+
+    def capacity(self, address):
+        """How many bytes the payload at a live address holds, or none."""
+        position = address - 8
+        if position in self.item_class:
+            return item_size(self.item_class[position]) - 8
+        kind, size = self.blocks.get(position, (None, 0))
+        return size - 16 if kind == VARIABLE else None
+
+    def live_addresses(self):
+        variable = [p + 8 for p in self.starts if self.blocks[p][0] == VARIABLE]
+        return variable + [p + 8 for p in self.item_class]
+
+
+def read_fixed_words(data, end):
+    require(data[:8] == MAGIC, "first 8 bytes")
+    require(word_at(data, 8) == DATA_AREA, "data area position")
+    require(word_at(data, 16) == INDEX_PAGE, "index page position")
+    require(word_at(data, STORED_END) == end, "stored end")
+    require(word_at(data, 40) == INDEX_TAG, "index page's low tag")
+    require(word_at(data, 304) == INDEX_TAG, "index page's high tag")
+
+
+def read_block(data, position, end):
+    """The kind and the size of the block at a position."""
+    require(position + 16 <= end, "block runs past the end")
+    tag = word_at(data, position)
+    kind, size = tag % 8, tag - tag % 8
+    require(kind in (FREE, VARIABLE, PAGE), "kind")
+    smallest = {FREE: SMALLEST_FREE, VARIABLE: SMALLEST_VARIABLE, PAGE: 4112}[kind]
+    require(size >= smallest, "size too small")
+    require(position + size <= end, "block runs past the end")
+    require(word_at(data, position + size - 8) == tag, "tags differ")
+    return kind, size
+
+
+def read_page(data, state, position, size, next_item):
+    """Notes a page's class and items; next_item gets its free items."""
+    c = word_at(data, position + 8) // 4 % CLASSES
+    state.page_class[position] = c
+    step, count = item_size(c), items_in_page(c)
+    require(size - 16 - count * step in (0, 8, 16, 24), "page's size")
+    in_use, free = 4 * c + ITEM_IN_USE, 4 * c + ITEM_FREE
+    for item in range(position + 8, position + 8 + count * step, step):
+        header = word_at(data, item)
+        if header == in_use:
+            state.item_class[item] = c
+        else:
+            require(header % 128 == free, "item's class or flags")
+            next_item[item] = (c, header // 128 * 8)
+
+
+def read_blocks(data, state):
+    next_item = {}
+    position, after_free = DATA_AREA, False
+    while position != state.end:
+        kind, size = read_block(data, position, state.end)
+        require(not (after_free and kind == FREE), "two free blocks touch")
+        after_free = kind == FREE
+        state.starts.append(position)
+        state.blocks[position] = (kind, size)
+        if kind == FREE:
+            state.free.append(position)
+        elif kind == PAGE:
+            read_page(data, state, position, size, next_item)
+        position += size
+    return next_item
+
+
+def read_free_list(data, state):
+    first = state.free[0] if state.free else 0
+    require(word_at(data, FIRST_FREE) == first, "first free block")
+    for position in state.free:
+        size = state.blocks[position][1]
+        before, after = state.free_neighbours(position)
+        require(word_at(data, position + 8) == after, "next link")
+        require(word_at(data, position + size - 16) == before, "previous link")
+
+
+def read_item_lists(data, state, next_item):
+    """Each list takes its items out of next_item, so a second visit finds nothing."""
+    for c in range(CLASSES):
+        offset = word_at(data, INDEX_PAGE + 8 * c)
+        while offset != 0:
+            item = offset + INDEX_PAGE
+            require(next_item.get(item, (None, 0))[0] == c, "list visits no fresh free item of its class")
+            offset = next_item.pop(item)[1]
+            state.lists[c].append(item)
+        state.lists[c].reverse()
+    require(not next_item, "a free item is on no list")
+
+
+def read_heap(data):
+    """The abstract heap of these bytes; raises Unsound if there is none."""
+    require(SHORTEST <= len(data) <= LONGEST, "length")
+    state = State(end_of(len(data)))
+    read_fixed_words(data, state.end)
+    next_item = read_blocks(data, state)
+    read_free_list(data, state)
+    read_item_lists(data, state, next_item)
+    return state
+
+
+def sound(data):
+    """Whether these bytes are a sound heap."""
+    try:
+        read_heap(data)
+    except Unsound:
+        return False
+    return True
+
+
+class Heap:
+    """The calls of 01 on a lent bytearray.
+
+    The abstract heap is kept between calls. Whoever changes bytes other than
+    those that may be anything must call decode afterwards. "writes" gathers
+    (position, bytes) of all that the calls write; its reader may clear it.
+    """
+
+    def __init__(self, data):
+        self.data = data
+        self.writes = []
+        self.decode()
+
+    def decode(self):
+        """Reads the bytes anew and settles the refusal that any call but initialise begins with."""
+        self.state = None
+        self._forget_changes()
+        if not SHORTEST <= len(self.data) <= LONGEST:
+            self.verdict = BAD_LENGTH
+        elif self.data[:8] != MAGIC:
+            self.verdict = NO_HEAP
+        else:
+            try:
+                self.state = read_heap(self.data)
+                self.verdict = GRANTED
+            except Unsound:
+                self.verdict = NOT_SOUND
+
+    # The calls. Each answers first the refusal number, then what it gives.
+
+    def initialise(self):
+        if self.verdict == BAD_LENGTH:
+            return BAD_LENGTH, 0
+        if self.data[:8] == MAGIC:
+            return ALREADY, 0
+        end = end_of(len(self.data))
+        self.state = State(end)
+        self.verdict = GRANTED
+        self._write(0, MAGIC)
+        for position, value in ((8, DATA_AREA), (16, INDEX_PAGE), (STORED_END, end), (40, INDEX_TAG), (304, INDEX_TAG)):
+            self._put(position, value)
+        for c in range(CLASSES):
+            self._changed_list(c, 0)
+        self._add_free(DATA_AREA, end - DATA_AREA)
+        self._lay_out_changes()
+        return GRANTED, 0
+
+    def check(self):
+        return self.verdict, 0
+
+    def allocate(self, size):
+        refusal = self.verdict or self._refuse_size(size)
+        if refusal:
+            return refusal, 0
+        address = self._allocate(size)
+        self._lay_out_changes()
+        return (GRANTED, address) if address else (NO_ROOM, 0)
+
+    def resize(self, address, size):
+        refusal = self.verdict or self._refuse_size(size) or self._refuse_address(address)
+        if refusal:
+            return refusal, 0
+        stays = self._resize_item(address, size) or self._resize_block(address, size)
+        new = address if stays else self._move(address, size)
+        self._lay_out_changes()
+        return (GRANTED, new) if new else (NO_ROOM, 0)
+
+    def free(self, address):
+        refusal = self.verdict or self._refuse_address(address)
+        if refusal:
+            return refusal, 0
+        self._free(address)
+        self._lay_out_changes()
+        return GRANTED, 0
+
+    def statistics(self):
+        """The refusal, the six numbers and the table of classes."""
+        table = [[0, 0, 0] for _ in range(CLASSES)]
+        if self.verdict:
+            return self.verdict, (0,) * 6, table
+        state = self.state
+        for c in state.page_class.values():
+            table[c][0] += 1
+        for c in state.item_class.values():
+            table[c][1] += 1
+        for c in range(CLASSES):
+            table[c][2] = len(state.lists[c])
+        free_sizes = [state.blocks[p][1] for p in state.free]
+        variable = sum(kind == VARIABLE for kind, _ in state.blocks.values())
+        six = (sum(free_sizes), len(free_sizes), max(free_sizes, default=0), variable,
+               len(state.page_class), len(state.item_class))
+        return GRANTED, six, table
+
+    def step(self, position):
+        """The refusal, (what, position, size, ...) and where the walk then stands."""
+        if self.verdict or position not in self.state.blocks:
+            return self.verdict, END_OF_WALK, position
+        kind, size = self.state.blocks[position]
+        if kind == FREE:
+            before, after = self.state.free_neighbours(position)
+            answer = ("free", position, size, after, before)
+        elif kind == PAGE:
+            answer = ("page", position, size, self.state.page_class[position])
+        else:
+            answer = ("variable", position, size)
+        return GRANTED, answer, position + size
+
+    def look_up(self, address):
+        """The refusal and the part of the lent heap, an empty one if refused."""
+        refusal = self.verdict or self._refuse_address(address)
+        length = 0 if refusal else self.state.capacity(address)
+        start = 0 if refusal else address
+        return refusal, memoryview(self.data)[start:start + length]
+
+    # Refusals that depend on what was asked.
+
+    def _refuse_size(self, size):
+        return GRANTED if 1 <= size <= LARGEST_SIZE else BAD_SIZE
+
+    def _refuse_address(self, address):
+        return BAD_ADDRESS if self.state.capacity(address) is None else GRANTED
+
+    # The rules, on the abstract heap alone.
+
+    def _allocate(self, size):
+        """The new payload's address, or none if there is no room."""
+        if size > LARGEST_ITEM:
+            position = self._take_block(round_up(size) + 16, VARIABLE)
+            return position and position + 8
+        c = class_of(size)
+        if not self.state.lists[c] and not self._make_page(c):
+            return None
+        item = self.state.lists[c].pop()
+        self.state.item_class[item] = c
+        self._changed_list(c, 0)
+        self.changed_items.add(item)
+        return item + 8
+
+    def _make_page(self, c):
+        position = self._take_block(items_in_page(c) * item_size(c) + 16, PAGE)
+        if position is None:
+            return False
+        self.state.page_class[position] = c
+        items = list(self.state.items_of_page(position))
+        self.state.lists[c] = items[::-1]
+        self._changed_list(c, len(items))
+        return True
+
+    def _take_block(self, size, kind):
+        position = self.state.lowest_fit(size)
+        if position is not None:
+            whole = self._remove_free(position)
+            self._use(position, size, whole, kind)
+        return position
+
+    def _use(self, position, size, whole, kind):
+        """Makes a block of what is free from a position on, by the rule of 32 bytes."""
+        rest = whole - size
+        if rest >= SMALLEST_FREE:
+            self._add_free(position + size, rest)
+        else:
+            size = whole
+        self.state.add_block(position, kind, size)
+        self.changed_blocks.add(position)
+
+    def _free(self, address):
+        position = address - 8
+        if position in self.state.item_class:
+            c = self.state.item_class.pop(position)
+            self.state.lists[c].append(position)
+            self._changed_list(c, 1)
+        else:
+            _, size = self.state.remove_block(position)
+            self._release(position, size)
+
+    def _release(self, position, size):
+        """Makes a stretch free that belongs to no block; joins it with free neighbours."""
+        left, right = self.state.block_before(position), position + size
+        if self.state.is_free(right):
+            size += self._remove_free(right)
+        if left is not None and self.state.is_free(left):
+            size += self._remove_free(left)
+            position = left
+        self._add_free(position, size)
+
+    def _resize_item(self, address, size):
+        """Whether the address is an item that stays."""
+        return self.state.item_class.get(address - 8) == class_of(size)
+
+    def _resize_block(self, address, size):
+        """Whether the address is a block that stays; if so it is shrunk or grown."""
+        position = address - 8
+        if size <= LARGEST_ITEM or position in self.state.item_class:
+            return False
+        wanted = round_up(size) + 16
+        _, old = self.state.blocks[position]
+        if wanted <= old:
+            if old - wanted >= SMALLEST_FREE:
+                self.state.blocks[position] = (VARIABLE, wanted)
+                self.changed_blocks.add(position)
+                self._release(position + wanted, old - wanted)
+            return True
+        right = position + old
+        if not self.state.is_free(right) or old + self.state.blocks[right][1] < wanted:
+            return False
+        self.state.remove_block(position)
+        self._use(position, wanted, old + self._remove_free(right), VARIABLE)
+        return True
+
+    def _move(self, address, size):
+        """Allocate, copy, free: three heaps, one after the other."""
+        capacity = self.state.capacity(address)
+        new = self._allocate(size)
+        if not new:
+            return None
+        self._lay_out_changes()
+        count = min(capacity, size)
+        self._write(new, bytes(self.data[address:address + count]))
+        self._free(address)
+        return new
+
+    # Changes of the free list, with all the blocks whose links they change.
+
+    def _add_free(self, position, size):
+        self.state.add_block(position, FREE, size)
+        self.changed_blocks.update((position, *self.state.free_neighbours(position)))
+
+    def _remove_free(self, position):
+        """Takes a free block out and answers its size."""
+        self.changed_blocks.update(self.state.free_neighbours(position))
+        return self.state.remove_block(position)[1]
+
+    # Laying out.
+
+    def _forget_changes(self):
+        self.changed_blocks = set()  # positions; 0 and blocks that are gone do not matter
+        self.changed_lists = {}  # class -> how many of its first items have new headers
+        self.changed_items = set()  # items that are now in use
+
+    def _changed_list(self, c, count):
+        self.changed_lists[c] = max(count, self.changed_lists.get(c, 0))
+
+    def _lay_out_changes(self):
+        for position in self.changed_blocks:
+            if position in self.state.blocks:
+                self._lay_out_block(position)
+        if self.changed_blocks:
+            self._put(FIRST_FREE, self.state.free[0] if self.state.free else 0)
+        for c, count in self.changed_lists.items():
+            self._lay_out_list(c, count)
+        for item in self.changed_items:
+            self._put(item, 4 * self.state.item_class[item] + ITEM_IN_USE)
+        self._forget_changes()
+
+    def lay_out_whole(self):
+        """Writes every named word that is not fixed; changes nothing if the bytes are right."""
+        self.changed_blocks.update(self.state.starts)
+        for c in range(CLASSES):
+            self._changed_list(c, len(self.state.lists[c]))
+        self.changed_items.update(self.state.item_class)
+        self._lay_out_changes()
+
+    def _lay_out_block(self, position):
+        kind, size = self.state.blocks[position]
+        self._put(position, size + kind)
+        self._put(position + size - 8, size + kind)
+        if kind == FREE:
+            before, after = self.state.free_neighbours(position)
+            self._put(position + 8, after)
+            self._put(position + size - 16, before)
+
+    def _lay_out_list(self, c, count):
+        """Writes the head of a list and the headers of its first items."""
+        items = self.state.lists[c]
+        self._put(INDEX_PAGE + 8 * c, items[-1] - INDEX_PAGE if items else 0)
+        for index in range(len(items) - count, len(items)):
+            following = items[index - 1] - INDEX_PAGE if index else 0
+            self._put(items[index], 16 * following + 4 * c + ITEM_FREE)
+
+    def _put(self, position, value):
+        self._write(position, WORD.pack(value))
+
+    def _write(self, position, content):
+        self.data[position:position + len(content)] = content
+        self.writes.append((position, content))
+
+
+def call_list(records):
+    """The output of the call-list program for these records."""
+    heap, number, at, lines = Heap(bytearray(65536)), 0, 0, []
+    while at < len(records):
+        kind = records[at]
+        width = {0: 4, 1: 4, 2: 8, 3: 4, 4: 0}.get(kind)
+        if width is None or at + 1 + width > len(records):
+            return lines + ["stop"]
+        body = struct.unpack_from("<%dI" % (width // 4), records, at + 1)
+        at += 1 + width
+        if kind == 0:
+            heap, refusal = call_list_initialise(heap, body[0])
+            lines.append(f"{number} {refusal} 0")
+        elif kind == 4:
+            refusal, six, _ = heap.statistics()
+            lines.append(" ".join(map(str, (number, refusal, *six))))
+        else:
+            refusal, address = (heap.allocate, heap.resize, heap.free)[kind - 1](*body)
+            lines.append(f"{number} {refusal} {address}")
+        number += 1
+    return lines
+
+
+def call_list_initialise(heap, length):
+    """The heap that counts from here on, and the refusal; the buffer is always the same one."""
+    if not SHORTEST <= length <= 65536:
+        return heap, BAD_LENGTH
+    if heap.data[:8] == MAGIC:
+        return heap, ALREADY
+    fresh = Heap(heap.data[:length])
+    return fresh, fresh.initialise()[0]
+
+
+class SelfTest:
+    """The figures of 01, each counted once."""
+
+    def __init__(self):
+        self.count = 0
+
+    def same(self, got, wanted):
+        self.count += 1
+        assert got == wanted, f"figure {self.count}: {got} instead of {wanted}"
+
+    def fresh(self, length):
+        heap = Heap(bytearray(length))
+        self.same(heap.initialise(), (GRANTED, 0))
+        return heap
+
+    def blocks(self, heap):
+        """All blocks as a walk from 312 shows them."""
+        position, seen = DATA_AREA, []
+        while True:
+            refusal, answer, position = heap.step(position)
+            assert refusal == GRANTED and sound(heap.data)
+            if answer == END_OF_WALK:
+                return seen
+            seen.append(answer)
+
+    def short_heaps(self):
+        self.same(Heap(bytearray(343)).initialise(), (BAD_LENGTH, 0))
+        heap = self.fresh(344)
+        self.same(self.blocks(heap), [("free", 312, 32, 0, 0)])
+        self.same(heap.allocate(1), (NO_ROOM, 0))
+        self.same(word_at(self.fresh(351).data, STORED_END), 344)
+        for size, length in ((256, 4552), (1, 4440)):
+            self.same(self.fresh(length).allocate(size)[0], GRANTED)
+            self.same(self.fresh(length - 1).allocate(size), (NO_ROOM, 0))
+
+    def heap_with_two(self):
+        """H, allocate 300, allocate 16."""
+        heap = self.fresh(10000)
+        self.same(self.blocks(heap), [("free", 312, 9688, 0, 0)])
+        self.same(heap.allocate(300), (GRANTED, 320))
+        self.same(word_at(heap.data, 312), 322)
+        self.same(self.blocks(heap)[1], ("free", 632, 9368, 0, 0))
+        self.same(heap.allocate(16), (GRANTED, 648))
+        self.same(self.blocks(heap)[1:], [("page", 632, 4120, 1), ("free", 4752, 5248, 0, 0)])
+        for position, value in ((632, 4123), (640, 7), (INDEX_PAGE + 8, 616), (664, 10245)):
+            self.same(word_at(heap.data, position), value)
+        return heap
+
+    def blocks_in_a_hole(self):
+        for size, rest in ((264, ("free", 592, 40, 4752, 0)), (272, ("free", 600, 32, 4752, 0)), (273, None)):
+            heap = self.heap_with_two()
+            self.same(heap.free(320), (GRANTED, 0))
+            self.same((word_at(heap.data, FIRST_FREE), word_at(heap.data, 320)), (312, 4752))
+            self.same(heap.allocate(size), (GRANTED, 320))
+            if rest:
+                self.same(self.blocks(heap)[1], rest)
+            else:
+                self.same(word_at(heap.data, 312), 322)
+
+    def item_freed_twice(self):
+        heap = self.heap_with_two()
+        self.same(heap.free(648), (GRANTED, 0))
+        self.same((word_at(heap.data, 640), word_at(heap.data, INDEX_PAGE + 8)), (9861, 592))
+        self.same(heap.free(648), (BAD_ADDRESS, 0))
+
+    def resizes(self):
+        for size, rest in ((570, None), (568, ("free", 896, 9104, 0, 0)), (700, ("free", 1032, 8968, 0, 0))):
+            heap = self.fresh(10000)
+            self.same(heap.allocate(600), (GRANTED, 320))
+            before = bytes(heap.data)
+            self.same(heap.resize(320, size), (GRANTED, 320))
+            if rest:
+                self.same(self.blocks(heap)[1], rest)
+            else:
+                self.same(bytes(heap.data), before)
+
+    def addresses(self):
+        heap = self.fresh(10000)
+        self.same(heap.allocate(257)[0], GRANTED)
+        self.same(self.blocks(heap)[0], ("variable", 312, 280))
+        heap = self.fresh(10000)
+        self.same(heap.allocate(1), (GRANTED, 328))
+        self.same(heap.free(48), (BAD_ADDRESS, 0))
+        self.same(heap.free(320), (BAD_ADDRESS, 0))
+        self.same([len(heap.look_up(address)[1]) for address in (320, 328)], [0, 8])
+        self.same(heap.statistics()[2][0], [1, 1, 256])
+        self.same(heap.initialise(), (ALREADY, 0))
+
+    def call_lists(self):
+        records = bytes.fromhex("00 10270000 01 2c010000 01 10000000 03 40010000 03 40010000 04")
+        wanted = ["0 0 0", "1 0 320", "2 0 648", "3 0 0", "4 5 0", "5 0 5568 2 5248 0 1 1"]
+        self.same(call_list(records), wanted)
+        self.same(call_list(b"\x04\x09"), ["0 2 0 0 0 0 0 0", "stop"])
+
+    def run(self):
+        self.short_heaps()
+        self.heap_with_two()
+        self.blocks_in_a_hole()
+        self.item_freed_twice()
+        self.resizes()
+        self.addresses()
+        self.call_lists()
+        return self.count
+
+
+if __name__ == "__main__":
+    print(f"second: {SelfTest().run()} checks of the figures of document 01 agree")
