@@ -1,1 +1,3 @@
 mod Opening
+mod Examining
+mod Freeing

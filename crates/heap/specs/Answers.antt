@@ -1,12 +1,16 @@
 -- What an answer means: document 01's number, address and bytes.
 use Prim.Native.Nat.{ℕ}
 use mathlib.Core.List.{List}
+use Rattle.model.specs.Shape.{wide}
+use Rattle.model.specs.Sound.{Sound}
 use Rattle.model.specs.Refusals.{badLength, notOpened, notSound, badSize, notLive, noRoom, alreadyOpened}
-use Rattle.model.specs.Calls.{Outcome, refused, granted}
+use Rattle.model.specs.Calls.{Outcome, refused, granted, Lent, Opened}
 use Rattle.heap.specs.declared.Refusal.{Refusal}
 use Rattle.heap.specs.declared.Refusal.the-variants.{BadLength, NotOpened, NotSound, BadSize, NotLive, NoRoom, AlreadyOpened}
 use Rattle.heap.specs.declared.Answer.{Answer}
 use Rattle.heap.specs.declared.Answer.the-variants.{Granted, Refused}
+use Rattle.heap.specs.declared.Verdict.{Verdict}
+use Rattle.heap.specs.declared.Verdict.the-variants.{Fine, Unfit}
 
 -- document 01's number of a refusal
 abbrev pub refusalNumber : Refusal → ℕ
@@ -22,3 +26,17 @@ refusalNumber AlreadyOpened = alreadyOpened
 abbrev pub outcome : Answer → List ℕ → Outcome
 outcome (Granted a) b = granted (a .0) b
 outcome (Refused k) b = refused b (refusalNumber k)
+
+-- why every call but initialise says no: the first of 1, 2 and 3 that applies
+unfoldable pub UnfitFor : List ℕ → Refusal → Type 0
+UnfitFor b BadLength = Lent wide b → ⊥
+UnfitFor b NotOpened = Lent wide b × (Opened wide b → ⊥)
+UnfitFor b NotSound = Lent wide b × Opened wide b × (Sound wide b → ⊥)
+UnfitFor b BadSize = ⊥
+UnfitFor b NotLive = ⊥
+UnfitFor b NoRoom = ⊥
+UnfitFor b AlreadyOpened = ⊥
+
+unfoldable pub Examined : List ℕ → Verdict → Type 0
+Examined b Fine = Lent wide b × Sound wide b
+Examined b (Unfit k) = UnfitFor b k

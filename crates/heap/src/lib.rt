@@ -1,15 +1,17 @@
 // The heap's calls. Each checks what it is lent: it does what document 01's rule says, or refuses and leaves every byte.
+use engine::free as giving;
 use engine::fresh;
 use model::Address;
 use model::LONGEST;
 use model::MAGIC;
 use model::SHORTEST;
+use sound::is_sound;
 use words::word;
 ghost use mathlib.Core.Path.{_≡_};
 ghost use Prim.Native.Nat.{_≤_};
 ghost use Rattle.model.specs.Shape.{wide};
-ghost use Rattle.model.specs.Calls.{Initialises};
-ghost use Rattle.heap.specs.Answers.{outcome, refusalNumber};
+ghost use Rattle.model.specs.Calls.{Initialises, Checks, Frees};
+ghost use Rattle.heap.specs.Answers.{Examined, outcome, refusalNumber};
 
 // Why a call says no, in the order of document 01's numbers, 1 to 7.
 pub enum Refusal {
@@ -26,6 +28,12 @@ pub enum Refusal {
 pub enum Answer {
     Granted(Address),
     Refused(Refusal),
+}
+
+// What every call but initialise finds first: a sound heap, or a reason to say no.
+pub enum Verdict {
+    Fine,
+    Unfit(Refusal),
 }
 
 // Document 01's number of a refusal.
@@ -58,4 +66,51 @@ pub fn initialise(h: &mut [u8]) -> Answer
     }
     fresh::lay(h);
     Answer::Granted(Address(0))
+}
+
+// The length, the first 8 bytes, and soundness, in that order.
+fn examine(h: &[u8]) -> Verdict
+    ensures { λ r. ⌜ Examined (now (h .entry)) r ⌝ }
+{
+    if h.len() < SHORTEST {
+        return Verdict::Unfit(Refusal::BadLength);
+    }
+    if LONGEST < h.len() {
+        return Verdict::Unfit(Refusal::BadLength);
+    }
+    if word(h, 0) != MAGIC {
+        return Verdict::Unfit(Refusal::NotOpened);
+    }
+    if !is_sound(h) {
+        return Verdict::Unfit(Refusal::NotSound);
+    }
+    Verdict::Fine
+}
+
+// Says whether the buffer holds a sound heap.
+pub fn check(h: &[u8]) -> Answer
+    ensures { λ r. ⌜ Checks wide (now (h .entry)) (outcome r (now (h .entry))) ⌝ }
+{
+    let v = examine(h);
+    match v {
+        Verdict::Unfit(k) => Answer::Refused(k),
+        Verdict::Fine => Answer::Granted(Address(0)),
+    }
+}
+
+// Gives back the record at a.
+pub fn free(h: &mut [u8], a: Address) -> Answer
+    ensures { λ r. ⌜ Frees wide (now (h .entry)) (a .0) (outcome r (now (h .exit))) ⌝ }
+{
+    let v = examine(h);
+    match v {
+        Verdict::Unfit(k) => Answer::Refused(k),
+        Verdict::Fine => {
+            let done = giving::free(h, a.0);
+            if done {
+                return Answer::Granted(Address(0));
+            }
+            Answer::Refused(Refusal::NotLive)
+        }
+    }
 }

@@ -1,10 +1,11 @@
 // The calls for the console's C host: numbers and a byte slice in, refusal × 2^32 + address out.
 use heap::Answer;
 use heap::refusal_number;
+use model::Address;
 ghost use mathlib.Core.Path.{_≡_};
 ghost use mathlib.Core.List.{[]};
 ghost use Rattle.model.specs.Shape.{wide};
-ghost use Rattle.model.specs.Calls.{Initialises};
+ghost use Rattle.model.specs.Calls.{Initialises, Checks, Frees};
 ghost use Rattle.heap.specs.Answers.{outcome};
 ghost use Rattle.host.specs.Numbers.{Numbered};
 
@@ -23,4 +24,18 @@ pub extern "C" fn heap_initialise(h: &mut [u8]) -> u64
     ensures { λ r. ⌜ Numbered (Initialises wide (now (h .entry))) r (now (h .exit)) ⌝ }
 {
     number(heap::initialise(h))
+}
+
+#[no_mangle]
+pub extern "C" fn heap_check(h: &[u8]) -> u64
+    ensures { λ r. ⌜ Numbered (Checks wide (now (h .entry))) r (now (h .entry)) ⌝ }
+{
+    number(heap::check(h))
+}
+
+#[no_mangle]
+pub extern "C" fn heap_free(h: &mut [u8], address: u64) -> u64
+    ensures { λ r. ⌜ Numbered (Frees wide (now (h .entry)) address) r (now (h .exit)) ⌝ }
+{
+    number(heap::free(h, Address(address as usize)))
 }

@@ -5,6 +5,7 @@ use mathlib.Core.List.{List}
 use native.Mathlib.Omega.{arith}
 use lib.ListN.{length, getD, set, replicate}
 use lib.Seq.{getD-set-same, getD-set-other}
+use lib.Bits.{bitXor, differ, xor-step, xor-zero-r}
 use lib.Pow.{shr-shr, shl-exact}
 use lib.Dec.{eqb}
 use borrow.Author.Tests.{eqb-true, eqb-false}
@@ -67,6 +68,23 @@ sub-other b j x e n =
     let l : 2 ^ b ≤ x = sub-fits b x e in
     let k : x - 2 ^ b + 2 ^ b ≡ x = omega arith in
     sym (add-other b j (x - 2 ^ b) (sub-same b x e) n) ∙ ap (λ (y : ℕ). bits y j) k
+
+-- a set bit is cleared by `^`
+xor-clears : (b x : ℕ) → bits x b ≡ 1 → bitXor x (2 ^ b) ≡ x - 2 ^ b
+unfolding bits
+xor-clears zero x e = xor-step x 1 ∙ rw (xor-zero-r (x / 2), e) (omega arith)
+xor-clears (suc b) x e =
+    let d : 2 ^ suc b / 2 ≡ 2 ^ b = omega arith in
+    let z : 2 ^ suc b % 2 ≡ 0 = omega arith in
+    xor-step x (2 ^ suc b) ∙ rw (d, z, xor-clears b (x / 2) e) (omega (arith, sub-fits b (x / 2) e, differ-zero (x % 2)))
+  where
+    differ-zero : (n : ℕ) → differ n 0 ≡ n
+    differ-zero zero = refl
+    differ-zero (suc n) = refl
+
+pub xor-unmarks : (m : List ℕ) (i : ℕ) → bitAt m i ≡ 1 → bitXor (getD m (i / 64) 0) (2 ^ (i % 64)) ≡ getD m (i / 64) 0 - 2 ^ (i % 64)
+unfolding bitAt
+xor-unmarks m i e = xor-clears (i % 64) _ (bits-is (i % 64) _ ∙ e)
 
 -- what a shift of 1 gives
 pub one-shifted : (b : ℕ) → b < 64 → (1 * 2 ^ b) % 18446744073709551616 ≡ 2 ^ b

@@ -1,3 +1,4 @@
 pub mod WordLaws
 pub mod BitLaws
+pub mod ByteLaws
 pub mod CopyLaws

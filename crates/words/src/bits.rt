@@ -31,5 +31,5 @@ pub fn unmark(m: &mut [u64], i: usize)
 {
     let w = i / 64;
     let k = i % 64;
-    m[w] = m[w] - (1u64 << k);
+    m[w] = m[w] ^ (1u64 << k);
 }

@@ -11,18 +11,14 @@ ghost use Rattle.words.specs.Word.{wordAt, put};
 fn join(b0: u8, b1: u8, b2: u8, b3: u8, b4: u8, b5: u8, b6: u8, b7: u8) -> usize
     ensures { λ r. ⌜ r ≡ b0 + 256 * (b1 + 256 * (b2 + 256 * (b3 + 256 * (b4 + 256 * (b5 + 256 * (b6 + 256 * b7)))))) ⌝ }
 {
-    b0 as usize
-        + 256
-            * (b1 as usize
-                + 256
-                    * (b2 as usize
-                        + 256
-                            * (b3 as usize
-                                + 256
-                                    * (b4 as usize
-                                        + 256
-                                            * (b5 as usize
-                                                + 256 * (b6 as usize + 256 * (b7 as usize)))))))
+    (b0 as usize)
+        | (b1 as usize) * 256
+        | (b2 as usize) * 65536
+        | (b3 as usize) * 16777216
+        | (b4 as usize) * 4294967296
+        | (b5 as usize) * 1099511627776
+        | (b6 as usize) * 281474976710656
+        | (b7 as usize) * 72057594037927936
 }
 
 // The word that begins at p.

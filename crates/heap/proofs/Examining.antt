@@ -1,0 +1,69 @@
+-- What every call but initialise finds first, and what follows for its contract.
+use Prim.Native.Nat.{ℕ, _≤_}
+use mathlib.Core.Path.{_≡_, refl, sym, ap, _∙_}
+use mathlib.Core.Bool.{Bool, true, false}
+use mathlib.Core.List.{List}
+use Rattle.words.specs.Word.{wordAt}
+use Rattle.model.specs.Shape.{wide}
+use Rattle.model.specs.Layout.{Layout}
+use Rattle.model.specs.Sound.{Here, Sound}
+use Rattle.model.specs.Calls.{Lent, Opened, Checked}
+use Rattle.sound.specs.Tells.{Tells}
+use Rattle.sound.proofs.Tellings.{clash}
+use Rattle.heap.specs.declared.Refusal.{Refusal}
+use Rattle.heap.specs.declared.Refusal.the-variants.{BadLength, NotOpened, NotSound, BadSize, NotLive, NoRoom, AlreadyOpened}
+use Rattle.heap.specs.declared.Verdict.{Verdict}
+use Rattle.heap.specs.declared.Verdict.the-variants.{Fine, Unfit}
+use Rattle.heap.specs.Answers.{refusalNumber, UnfitFor, Examined}
+
+module _ (b : List ℕ) where
+  pub examined-length : (Lent wide b → ⊥) → Examined b (Unfit BadLength)
+  unfolding Examined UnfitFor
+  examined-length n = n
+
+  module _ (l : Lent wide b) (w : ℕ) (e : w ≡ wordAt 8 b 0) where
+    pub examined-word : (w ≡ wide .magic → ⊥) → Examined b (Unfit NotOpened)
+    unfolding Examined UnfitFor
+    examined-word n = (l, λ o. n (e ∙ o))
+
+    pub examined-unsound : w ≡ wide .magic → (r : Bool) → Tells r (Sound wide b) → r ≡ false → Examined b (Unfit NotSound)
+    unfolding Examined UnfitFor
+    examined-unsound m r t f = (l, sym e ∙ m, λ s. clash r f (t .is-yes s))
+
+  pub examined-fine : Lent wide b → (r : Bool) → Tells r (Sound wide b) → r ≡ true → Examined b Fine
+  unfolding Examined
+  examined-fine l r t e = (l, t .yes-is e)
+
+  -- a reason to say no is the contract's, and no other applies
+  module _ {A : Type 0} (no-with : ℕ → A) (rule : Layout → A) where
+    unfit-checked : (k : Refusal) → UnfitFor b k → Checked wide b no-with rule (no-with (refusalNumber k))
+    unfolding UnfitFor
+    unfit-checked BadLength n = record { one = λ _. refl; two = λ l. absurd (n l); three = λ l. absurd (n l); sound = λ l. absurd (n l) }
+    unfit-checked NotOpened n =
+        record { one = λ m. absurd (m (n .0)); two = λ _ _. refl; three = λ _ o. absurd (n .1 o); sound = λ _ L h. absurd (n .1 (h .magic)) }
+    unfit-checked NotSound n =
+        record { one = λ m. absurd (m (n .0)); two = λ _ m. absurd (m (n .1)); three = λ _ _ _. refl; sound = λ _ L h. absurd (n .2 (record { layout = L; here = h })) }
+    unfit-checked BadSize n = absurd n
+    unfit-checked NotLive n = absurd n
+    unfit-checked NoRoom n = absurd n
+    unfit-checked AlreadyOpened n = absurd n
+
+    pub refuses : (v : Verdict) (k : Refusal) → Examined b v → v ≡ Unfit k → Checked wide b no-with rule (no-with (refusalNumber k))
+    unfolding Examined
+    refuses v k x e = unfit-checked k (rw e at x)
+
+    -- and of a sound heap the rule decides
+    pub decides : (v : Verdict) → Examined b v → v ≡ Fine → (r : A) → ((L : Layout) → Here wide b L → r ≡ rule L) → Checked wide b no-with rule r
+    unfolding Examined
+    decides v x e r d =
+        let y : Lent wide b × Sound wide b = rw e at x in
+        record {
+          one = λ n. absurd (n (y .0));
+          two = λ _ n. absurd (n (y .1 .here .magic));
+          three = λ _ _ n. absurd (n (y .1));
+          sound = λ _ L h. d L h;
+        }
+
+  pub fine-sound : (v : Verdict) → Examined b v → v ≡ Fine → Lent wide b × Sound wide b
+  unfolding Examined
+  fine-sound v x e = rw e at x

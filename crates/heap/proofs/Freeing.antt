@@ -1,0 +1,35 @@
+-- Free: what each way through the call shows of its contract.
+use Prim.Native.Nat.{ℕ}
+use mathlib.Core.Path.{_≡_, refl, sym, ap, _∙_}
+use mathlib.Core.Bool.{Bool, true, false, cond}
+use mathlib.Core.List.{List}
+use native.Mathlib.Omega.{arith}
+use Rattle.model.specs.Shape.{wide}
+use Rattle.model.specs.Layout.{Layout}
+use Rattle.model.specs.Sound.{Here, Sound}
+use Rattle.model.specs.Rules.{Found, block, thing, nothing, find, freed}
+use Rattle.model.specs.Refusals.{notLive}
+use Rattle.model.specs.Calls.{Outcome, refused, granted, Lent, found, drawn, without}
+use Rattle.engine.specs.Free.{Lively, isFound, freedBytes, Freed}
+use Rattle.sound.proofs.Tellings.{clash}
+
+-- a sound heap of a good length is what the engine asks for
+pub lively : {b : List ℕ} → Lent wide b × Sound wide b → Lively b
+lively x = record { sound = x .1; short = x .0 .1 }
+
+module _ (b : List ℕ) (a : ℕ) (r : Bool) (c : List ℕ) (f : Freed b a r c) (L : Layout) (h : Here wide b L) where
+  pub gave-back : r ≡ true → granted 0 c ≡ found wide (find wide a L) (refused b notLive) (granted 0 (drawn wide (without wide a L) b))
+  gave-back e = go (find wide a L) (sym (f .answer L h) ∙ e) (f .bytes L h)
+    where
+      go : (x : Found) → isFound x ≡ true → c ≡ freedBytes b L x → granted 0 c ≡ found wide x (refused b notLive) (granted 0 (drawn wide (freed wide x L) b))
+      go nothing t u = absurd (clash (isFound nothing) refl t)
+      go (block s) t u = ap (granted 0) u
+      go (thing o d) t u = ap (granted 0) u
+
+  pub nothing-there : r ≡ false → refused c notLive ≡ found wide (find wide a L) (refused b notLive) (granted 0 (drawn wide (without wide a L) b))
+  nothing-there e = go (find wide a L) (sym (f .answer L h) ∙ e) (f .bytes L h)
+    where
+      go : (x : Found) → isFound x ≡ false → c ≡ freedBytes b L x → refused c notLive ≡ found wide x (refused b notLive) (granted 0 (drawn wide (freed wide x L) b))
+      go nothing t u = ap (λ (y : List ℕ). refused y notLive) u
+      go (block s) t u = absurd (clash (isFound (block s)) t refl)
+      go (thing o d) t u = absurd (clash (isFound (thing o d)) t refl)

@@ -1,0 +1,23 @@
+use Rattle.host.proofs.Telling.{told}
+use borrow.Author.Needs.{needs}
+use Rattle.host.proofs.heap_check.Statement.{statement}
+use Rattle.host.proofs.heap_check.Tie as tie
+use Rattle.host.proofs.heap_check.Reads as reads
+use Rattle.host.proofs.heap_check.Lts as lts
+use Rattle.heap.proofs.check.Reads as check-reads
+use Rattle.host.proofs.number.Reads as number-reads
+
+-- src/lib.rt:33:12
+check-requires : tie.Need-check-requires
+check-requires c κs = search needs
+
+-- src/lib.rt:33:5
+number-requires : tie.Need-number-requires
+number-requires c κs = search needs
+
+-- src/lib.rt:29:1
+returns : tie.Need-returns
+returns c = told _ (c .before .check .result) _ _ (c .before .check .ensures) (c .number .ensures)
+
+pub heap-check-spec : {M : Type 1} → statement M
+heap-check-spec = tie.close (tie.spec check-requires number-requires returns)

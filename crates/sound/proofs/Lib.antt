@@ -1,0 +1,11 @@
+pub mod Tellings
+pub mod MapLaws
+pub mod Pages
+pub mod Walks
+pub mod Chained
+pub mod Clearing
+pub mod Offsets
+pub mod FilledHere
+pub mod HereFilled
+pub mod OneLayout
+pub mod Agree
