@@ -10,7 +10,8 @@ use words::word;
 ghost use mathlib.Core.Path.{_≡_};
 ghost use Prim.Native.Nat.{_≤_};
 ghost use Rattle.model.specs.Shape.{wide};
-ghost use Rattle.model.specs.Calls.{Initialises, Checks, Frees};
+ghost use Rattle.model.specs.Calls.{Lent, Initialises, Checks, Frees};
+ghost use Rattle.sound.specs.Tells.{Tells};
 ghost use Rattle.heap.specs.Answers.{Examined, outcome, refusalNumber};
 
 // Why a call says no, in the order of document 01's numbers, 1 to 7.
@@ -51,14 +52,21 @@ pub fn refusal_number(k: Refusal) -> u64
     }
 }
 
+// Whether the buffer's length is one that a heap may have.
+fn is_lent(h: &[u8]) -> bool
+    ensures { λ r. ⌜ Tells r (Lent wide (now (h .entry))) ⌝ }
+{
+    if h.len() < SHORTEST {
+        return false;
+    }
+    h.len() <= LONGEST
+}
+
 // Opens a heap in a buffer that holds none yet.
 pub fn initialise(h: &mut [u8]) -> Answer
     ensures { λ r. ⌜ Initialises wide (now (h .entry)) (outcome r (now (h .exit))) ⌝ }
 {
-    if h.len() < SHORTEST {
-        return Answer::Refused(Refusal::BadLength);
-    }
-    if LONGEST < h.len() {
+    if !is_lent(h) {
         return Answer::Refused(Refusal::BadLength);
     }
     if word(h, 0) == MAGIC {
@@ -72,10 +80,7 @@ pub fn initialise(h: &mut [u8]) -> Answer
 fn examine(h: &[u8]) -> Verdict
     ensures { λ r. ⌜ Examined (now (h .entry)) r ⌝ }
 {
-    if h.len() < SHORTEST {
-        return Verdict::Unfit(Refusal::BadLength);
-    }
-    if LONGEST < h.len() {
+    if !is_lent(h) {
         return Verdict::Unfit(Refusal::BadLength);
     }
     if word(h, 0) != MAGIC {

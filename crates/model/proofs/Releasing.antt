@@ -1,11 +1,11 @@
 -- A block is given back: it joins a free neighbour on either side.
 use Prim.Native.Nat.{ℕ, _+_, _%_, _≤_, _<_}
-use mathlib.Core.Path.{_≡_, refl, sym, ap, _∙_}
+use mathlib.Core.Path.{_≡_, refl, sym, ap, subst, _∙_}
 use mathlib.Core.List.{List, [], _∷_, _++_, append-assoc, append-nil}
 use mathlib.Core.Logic.{_⊎_, inl, inr, ⊎-elim}
 use native.Mathlib.Omega.{arith}
 use Rattle.model.specs.Shape.{Shape, start, least, leastTaken}
-use Rattle.model.specs.Layout.{variable, Block, free, used, ifFree, useSize, sizeOf, ends, firstFree}
+use Rattle.model.specs.Layout.{variable, Block, free, used, Layout, ifFree, useSize, sizeOf, ends, firstFree}
 use Rattle.model.specs.Sound.{Allowed, AllowedUse, AllAllowed, Apart, idleIn, idleItems, Valid}
 use Rattle.model.specs.Rules.{Spot, before, inFront, released}
 use Rattle.model.proofs.Blocks.{allowed-left, allowed-right}
@@ -153,3 +153,92 @@ module _ (S : Shape) where
     released-valid g v z k =
         let a = size-old g (allowed-left S old post (allowed-right S pre (old ++ post) (v .allowed))) in
         joined-valid S end ls pre post old joinedSize v (ends-old (ends S (start S) pre)) (a .0) (a .1) (λ c. idle-old c (ends S (start S) pre)) (λ h. apart-joined h z k)
+
+-- 1 or 0 is said of whether the last block is free
+pub free-or-not : (d : ℕ) (bs : List Block) → (d ≡ 0) ⊎ (d ≡ 1) → (endsFree d bs ≡ 0) ⊎ (endsFree d bs ≡ 1)
+unfolding endsFree
+free-or-not d [] z = z
+free-or-not d (free s ∷ bs) z = free-or-not 1 bs (inr refl)
+free-or-not d (used u ∷ bs) z = free-or-not 0 bs (inl refl)
+
+-- a block in a layout where no two free blocks touch, with its two sides
+pub record Sides (t : Spot) : Type 0 where
+  pub pre : List Block
+  pub lefts : List Block
+  pub rights : List Block
+  pub post : List Block
+  pub l : ℕ
+  pub r : ℕ
+  pub left : Side lefts l
+  pub right : Side rights r
+  pub pre-is : t .pre ≡ pre ++ lefts
+  pub post-is : t .post ≡ rights ++ post
+  pub clear-left : endsFree 0 pre ≡ 0
+  pub clear-right : Apart 1 post
+
+-- what stands right behind a block
+record Right (post : List Block) : Type 0 where
+  rights : List Block
+  rest : List Block
+  r : ℕ
+  side : Side rights r
+  is : post ≡ rights ++ rest
+  clear : Apart 1 rest
+
+pub sides-of : (t : Spot) → Apart 0 (t .pre ++ (used (variable (t .size)) ∷ t .post)) → Sides t
+unfolding Apart
+sides-of t a = on-left (free-or-not 0 (t .pre) (inl refl)) (t .post) refl (apart-right 0 (t .pre) (used (variable (t .size)) ∷ t .post) a .1)
+  where
+    on-right : (post : List Block) → Apart 0 post → Right post
+    on-right [] h = record { rights = []; rest = []; r = 0; side = nobody; is = refl; clear = tt }
+    on-right (free s ∷ post) h = record { rights = free s ∷ []; rest = post; r = s; side = neighbour s; is = refl; clear = h .1 }
+    on-right (used u ∷ post) h = record { rights = []; rest = used u ∷ post; r = 0; side = nobody; is = refl; clear = (omega arith, h .1) }
+
+    on-left : (endsFree 0 (t .pre) ≡ 0) ⊎ (endsFree 0 (t .pre) ≡ 1) → (post : List Block) → t .post ≡ post → Apart 0 (t .post) → Sides t
+    on-left (inl z) post e h =
+        let g = on-right (t .post) h in
+        record {
+          pre = t .pre;
+          lefts = [];
+          rights = g .rights;
+          post = g .rest;
+          l = 0;
+          r = g .r;
+          left = nobody;
+          right = g .side;
+          pre-is = sym (append-nil (t .pre));
+          post-is = g .is;
+          clear-left = z;
+          clear-right = g .clear;
+        }
+    on-left (inr z) post e h =
+        let g = on-right (t .post) h in
+        let w = left-side (t .pre) z in
+        let b : Apart 0 (w .0 ++ ((free (w .1) ∷ []) ++ (used (variable (t .size)) ∷ t .post))) = rw append-assoc at (rw (w .2) at a) in
+        record {
+          pre = w .0;
+          lefts = free (w .1) ∷ [];
+          rights = g .rights;
+          post = g .rest;
+          l = w .1;
+          r = g .r;
+          left = neighbour (w .1);
+          right = g .side;
+          pre-is = w .2;
+          post-is = g .is;
+          clear-left = omega (arith, apart-right 0 (w .0) ((free (w .1) ∷ []) ++ (used (variable (t .size)) ∷ t .post)) b .0);
+          clear-right = g .clear;
+        }
+
+-- THE LAW: a layout stays valid where a variable block is given back
+pub freed-block-valid : (S : Shape) → least S ≤ leastTaken S → (end : ℕ) (L : Layout) (t : Spot) → Valid S end L → L .blocks ≡ t .pre ++ ((used (variable (t .size)) ∷ []) ++ t .post)
+    → Valid S end (record { blocks = released t; lists = L .lists })
+freed-block-valid S g end L t v e =
+    let a : Apart 0 (t .pre ++ (used (variable (t .size)) ∷ t .post)) = subst (λ (l : List Block). Apart 0 l) e (v .apart) in
+    let s = sides-of t a in
+    let bl : L .blocks ≡ s .pre ++ (old S end (L .lists) t (s .pre) (s .lefts) (s .rights) (s .post) (s .l) (s .r) (s .left) (s .right) (s .pre-is) (s .post-is) ++ s .post) =
+    e ∙ sides-blocks S end (L .lists) t (s .pre) (s .lefts) (s .rights) (s .post) (s .l) (s .r) (s .left) (s .right) (s .pre-is) (s .post-is) in
+    subst (λ (l : List Block). Valid S end (record { blocks = l; lists = L .lists }))
+    (sym (released-is S end (L .lists) t (s .pre) (s .lefts) (s .rights) (s .post) (s .l) (s .r) (s .left) (s .right) (s .pre-is) (s .post-is) (subst (λ (l : List Block). Apart 0 l) bl (v .apart)) (s .clear-left) (s .clear-right)))
+    (released-valid S end (L .lists) t (s .pre) (s .lefts) (s .rights) (s .post) (s .l) (s .r) (s .left) (s .right) (s .pre-is) (s .post-is) g
+    (subst (λ (l : List Block). Valid S end (record { blocks = l; lists = L .lists })) bl v) (s .clear-left) (s .clear-right))

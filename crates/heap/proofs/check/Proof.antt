@@ -7,23 +7,18 @@ use Rattle.heap.proofs.check.Reads as reads
 use Rattle.heap.proofs.check.Lts as lts
 use Rattle.heap.proofs.examine.Reads as examine-reads
 
--- src/lib.rt:94:9
 examine-requires : tie.Need-examine-requires
 examine-requires c κs = search needs
 
--- src/lib.rt:96:24
 enum-known-v : tie.Need-enum-known-v
 enum-known-v c = search needs
 
--- src/lib.rt:97:42
 enum-told : tie.Need-enum-told
 enum-told c = search needs
 
--- src/lib.rt:91:1
 returns : tie.Need-returns
 returns c = refuses _ _ _ _ _ (c .before .before .before .examine .ensures) (c .before .v .given .1)
 
--- src/lib.rt:91:1
 returns-2 : tie.Need-returns-2
 returns-2 c = decides _ _ _ _ (c .before .before .examine .ensures) (c .enum-told .given .1) _ (λ L h. refl)
 

@@ -8,43 +8,33 @@ use Rattle.heap.proofs.free.Lts as lts
 use Rattle.engine.proofs.free.free.Reads as free-reads
 use Rattle.heap.proofs.examine.Reads as examine-reads
 
--- src/lib.rt:105:9
 examine-requires : tie.Need-examine-requires
 examine-requires c κs = search needs
 
--- src/lib.rt:107:24
 enum-known-v : tie.Need-enum-known-v
 enum-known-v c = search needs
 
--- src/lib.rt:109:37
 enum-told : tie.Need-enum-told
 enum-told c = search needs
 
--- src/lib.rt:109:17
 free-requires : tie.Need-free-requires
 free-requires c κs = lively (fine-sound _ _ (c .before .before .before .examine .ensures) (c .before .enum-told .given .1))
 
--- src/lib.rt:111:17
 same-length : tie.Need-same-length
 same-length c = search needs
 
--- src/lib.rt:111:17
 returns : tie.Need-returns
 returns c = decides _ _ _ _ (c .before .before .before .before .before .before .before .examine .ensures) (c .before .before .before .before .before .enum-told .given .1) _ (λ L h. gave-back _ _ _ _ (c .before .before .before .free .ensures) L h (c .if1 .taken))
 
--- src/lib.rt:102:1
 same-length-2 : tie.Need-same-length-2
 same-length-2 c = search needs
 
--- src/lib.rt:102:1
 returns-2 : tie.Need-returns-2
 returns-2 c = refuses _ _ _ _ _ (c .before .before .before .examine .ensures) (c .before .v .given .1)
 
--- src/lib.rt:102:1
 same-length-3 : tie.Need-same-length-3
 same-length-3 c = search needs
 
--- src/lib.rt:102:1
 returns-3 : tie.Need-returns-3
 returns-3 c = decides _ _ _ _ (c .before .before .before .before .before .before .before .examine .ensures) (c .before .before .before .before .before .enum-told .given .1) _ (λ L h. nothing-there _ _ _ _ (c .before .before .before .free .ensures) L h (c .if1 .left))
 

@@ -1,4 +1,6 @@
+use borrow.Author.Tests.{not-true, not-false}
 use native.Mathlib.Omega.{arith}
+use Rattle.sound.proofs.Tellings.{clash}
 use Rattle.heap.proofs.Opening.{opens-not-lent, opens-again, opens-fresh}
 use borrow.Author.Needs.{needs}
 use Rattle.heap.proofs.initialise.Statement.{statement}
@@ -6,41 +8,46 @@ use Rattle.heap.proofs.initialise.Tie as tie
 use Rattle.heap.proofs.initialise.Reads as reads
 use Rattle.heap.proofs.initialise.Lts as lts
 use Rattle.engine.proofs.fresh.lay.Reads as lay-reads
+use Rattle.heap.proofs.is_lent.Reads as is-lent-reads
 use Rattle.words.proofs.word.Reads as word-reads
 
-returns : tie.Need-returns
-returns c = opens-not-lent _ (λ l. omega arith)
-
-returns-2 : tie.Need-returns-2
-returns-2 c = opens-not-lent _ (λ l. omega arith)
-
-word-requires : tie.Need-word-requires
-word-requires c κs = search needs
+is-lent-requires : tie.Need-is-lent-requires
+is-lent-requires c κs = search needs
 
 same-length : tie.Need-same-length
 same-length c = search needs
 
-returns-3 : tie.Need-returns-3
-returns-3 c = opens-again _ (omega arith) _ (c .before .word .ensures) (c .if3 .taken)
+returns : tie.Need-returns
+returns c = opens-not-lent _ (λ l. clash _ (not-true _ (c .if1 .taken)) (c .before .is-lent .ensures .is-yes l))
 
-lay-requires : tie.Need-lay-requires
-lay-requires c κs = search needs
+word-requires : tie.Need-word-requires
+word-requires c κs = omega (arith, c .before .before .is-lent .ensures .yes-is (not-false _ (c .before .if1 .left)))
 
 same-length-2 : tie.Need-same-length-2
 same-length-2 c = search needs
 
-returns-4 : tie.Need-returns-4
-returns-4 c = opens-fresh _ (omega arith) _ (c .before .before .before .before .before .word .ensures) (c .before .before .before .before .if3 .left) _ (c .before .before .lay .ensures)
+returns-2 : tie.Need-returns-2
+returns-2 c = opens-again _ (c .before .before .before .before .is-lent .ensures .yes-is (not-false _ (c .before .before .before .if1 .left))) _ (c .before .word .ensures) (c .if2 .taken)
+
+lay-requires : tie.Need-lay-requires
+lay-requires c κs = c .before .before .before .before .before .is-lent .ensures .yes-is (not-false _ (c .before .before .before .before .if1 .left))
+
+same-length-3 : tie.Need-same-length-3
+same-length-3 c = search needs
+
+returns-3 : tie.Need-returns-3
+returns-3 c = opens-fresh _ (c .before .before .before .before .before .before .before .before .is-lent .ensures .yes-is (not-false _ (c .before .before .before .before .before .before .before .if1 .left))) _ (c .before .before .before .before .before .word .ensures) (c .before .before .before .before .if2 .left) _ (c .before .before .lay .ensures)
 
 pub initialise-spec : {M : Type 1} → statement M
 initialise-spec =
     tie.close
     (tie.spec
-    returns
-    returns-2
-    word-requires
+    is-lent-requires
     same-length
-    returns-3
-    lay-requires
+    returns
+    word-requires
     same-length-2
-    returns-4)
+    returns-2
+    lay-requires
+    same-length-3
+    returns-3)

@@ -7,15 +7,12 @@ use Rattle.host.proofs.heap_check.Lts as lts
 use Rattle.heap.proofs.check.Reads as check-reads
 use Rattle.host.proofs.number.Reads as number-reads
 
--- src/lib.rt:33:12
 check-requires : tie.Need-check-requires
 check-requires c κs = search needs
 
--- src/lib.rt:33:5
 number-requires : tie.Need-number-requires
 number-requires c κs = search needs
 
--- src/lib.rt:29:1
 returns : tie.Need-returns
 returns c = told _ (c .before .check .result) _ _ (c .before .check .ensures) (c .number .ensures)
 

@@ -7,19 +7,15 @@ use Rattle.host.proofs.heap_free.Lts as lts
 use Rattle.heap.proofs.free.Reads as free-reads
 use Rattle.host.proofs.number.Reads as number-reads
 
--- src/lib.rt:40:12
 free-requires : tie.Need-free-requires
 free-requires c κs = search needs
 
--- src/lib.rt:40:5
 number-requires : tie.Need-number-requires
 number-requires c κs = search needs
 
--- src/lib.rt:36:1
 same-length : tie.Need-same-length
 same-length c = search needs
 
--- src/lib.rt:36:1
 returns : tie.Need-returns
 returns c = told _ (c .before .before .before .free .result) _ _ (c .before .before .before .free .ensures) (c .number .ensures)
 
