@@ -13,9 +13,10 @@ use Rattle.engine.specs.declared.find.Live.the-variants.{Nothing, Item, 
 use Rattle.engine.specs.Find.{Finds}
 use Rattle.engine.specs.Items.{ItemLive, GaveItem}
 use Rattle.engine.specs.Release.{BlockLive, Released}
-use Rattle.engine.specs.Free.{Lively, isFound, freedBytes, Freed}
+use Rattle.engine.specs.Free.{isFound, freedBytes, Freed}
+use Rattle.engine.specs.Ready.{Ready}
 
-module _ (b : List ℕ) (a : ℕ) (k : Lively b) (x : Live) (f : (L : Layout) → Here wide b L → Finds L a x) where
+module _ (b : List ℕ) (a : ℕ) (k : Ready b) (x : Live) (f : (L : Layout) → Here wide b L → Finds L a x) where
   found-as : (y : Live) → x ≡ y → (L : Layout) → Here wide b L → Finds L a y
   found-as y e L h = subst (λ (z : Live). Finds L a z) e (f L h)
 

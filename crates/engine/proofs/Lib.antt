@@ -3,3 +3,9 @@ mod FindLaws
 mod ReleaseLaws
 mod GiveLaws
 mod FreeLaws
+mod Taking
+mod Placing
+mod ItemTaking
+mod PageLinks
+mod PageMaking
+mod Allocating

@@ -10,11 +10,6 @@ use Rattle.model.specs.Sound.{Here, Sound}
 use Rattle.model.specs.Rules.{Found, block, thing, nothing, find, freed}
 use Rattle.model.specs.Calls.{drawn}
 
--- a sound heap of a length that may be lent
-pub record Lively (b : List ℕ) : Type 0 where
-  pub sound : Sound wide b
-  pub short : length b ≤ 1048576
-
 -- whether something was found, and the bytes then
 abbrev pub isFound : Found → Bool
 isFound nothing = false

@@ -3,11 +3,12 @@ use crate::find::Live;
 use crate::find::find;
 use crate::items::give;
 use crate::release::release;
-ghost use Rattle.engine.specs.Free.{Freed, Lively};
+ghost use Rattle.engine.specs.Free.{Freed};
+ghost use Rattle.engine.specs.Ready.{Ready};
 
 // Gives back what is live at a: true; or false where nothing is, and nothing changes.
 pub fn free(h: &mut [u8], a: usize) -> bool
-    requires { ⌜ Lively (now h) ⌝ }
+    requires { ⌜ Ready (now h) ⌝ }
     ensures { λ r. ⌜ Freed (now (h .entry)) a r (now (h .exit)) ⌝ }
 {
     let x = find(h, a);

@@ -10,11 +10,12 @@ use Rattle.model.specs.Sound.{Here, Sound}
 use Rattle.model.specs.Rules.{Found, block, thing, nothing, find, freed}
 use Rattle.model.specs.Refusals.{notLive}
 use Rattle.model.specs.Calls.{Outcome, refused, granted, Lent, found, drawn, without}
-use Rattle.engine.specs.Free.{Lively, isFound, freedBytes, Freed}
+use Rattle.engine.specs.Free.{isFound, freedBytes, Freed}
+use Rattle.engine.specs.Ready.{Ready}
 use Rattle.sound.proofs.Tellings.{clash}
 
 -- a sound heap of a good length is what the engine asks for
-pub lively : {b : List ℕ} → Lent wide b × Sound wide b → Lively b
+pub lively : {b : List ℕ} → Lent wide b × Sound wide b → Ready b
 lively x = record { sound = x .1; short = x .0 .1 }
 
 module _ (b : List ℕ) (a : ℕ) (r : Bool) (c : List ℕ) (f : Freed b a r c) (L : Layout) (h : Here wide b L) where

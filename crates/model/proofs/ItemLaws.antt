@@ -13,11 +13,12 @@ use Rattle.model.specs.Picture.{Word, Shows, draw}
 use Rattle.model.specs.Shape.{Shape, start, index, firstFreeAt, tags, item}
 use Rattle.model.specs.Layout.{Slot, variable, page, Block, free, used, Layout, headOf, nextOf, useSize, sizeOf, ends, firstFree, header, slotWords, useWords, own, blockWords, headWords, fixedLow, fixedHigh, words}
 use Rattle.model.specs.Sound.{Valid}
+use Rattle.model.proofs.Pictures.{Outside, length-draw, bytes-draw, draw-out, draw-over}
 use Rattle.model.proofs.Blocks.{rise-blocks}
 use Rattle.model.proofs.Replace.{rise-low, rise-high, rise-heads}
-use Rattle.model.proofs.Change.{setAt, Has, set-append, has-left, has-right, set-away, two-put}
+use Rattle.model.proofs.Change.{setAt, Has, set-append, has-left, has-right, set-away, outside-set, two-put}
 use Rattle.model.proofs.Items.{InSlots, InUse, InBlocks, blocks-range, first-itemTo, blocks-here}
-use Rattle.model.proofs.Drawn.{rise-words}
+use Rattle.model.proofs.Drawn.{rise-words, fit-words}
 use Rattle.model.specs.Rules.{itemTo}
 
 module _ (S : Shape) (w0 : 0 < S .word) where
@@ -135,3 +136,13 @@ module _ (S : Shape) (w0 : 0 < S .word) where
       item-law b n bytes f g room sh =
           rw item-words
           (two-put (S .word) w0 headAt (headOf l) q value 8 (words S end L) end b (rise-words S end L v room) n bytes f g has-head has-item sh)
+
+      -- both pictures have words at the same positions, so the new one drawn over the old is the new one alone
+      pub item-over : (b : List ℕ) → end ≤ length b → Bytes b → 16 * end + 4 * S .classes + 64 * S .word + 64 < 256 ^ S .word → Valid S end changed
+          → draw (S .word) (words S end changed) (draw (S .word) (words S end L) b) ≡ draw (S .word) (words S end changed) b
+      item-over b n bytes room v′ =
+          draw-over (S .word) 8 (words S end changed) end b (draw (S .word) (words S end L) b) (rise-words S end changed v′ room) n (fit-words S end changed v′ room)
+          (bytes-draw (S .word) (words S end L) b bytes) (length-draw (S .word) (words S end L) b)
+          (λ i out.
+          let o : Outside (S .word) i (setAt q value (setAt headAt (headOf l) (words S end L))) = rw item-words at out in
+          draw-out (S .word) (words S end L) b i (outside-set (S .word) i headAt (headOf l) (words S end L) (outside-set (S .word) i q value (setAt headAt (headOf l) (words S end L)) o)))

@@ -23,6 +23,17 @@ pub mod Standing
 pub mod Finding
 pub mod Aligned
 pub mod Releasing
+pub mod Spots
+pub mod Taken
+pub mod Placed
+pub mod Relist
+pub mod Heads
+pub mod PageWords
+pub mod Paged
+pub mod Lives
+pub mod ItemLives
+pub mod Allocation
+pub mod Room
 pub mod OnLayouts
 pub mod Figures
 pub mod Vectors

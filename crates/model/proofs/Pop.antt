@@ -16,7 +16,7 @@ use Rattle.model.specs.Layout.{Slot, idle, held, variable, page, Block, 
 use Rattle.model.specs.Sound.{times, idleSlots, idleIn, idleItems, Valid, Here}
 use Rattle.model.proofs.Blocks.{le-ends}
 use Rattle.model.proofs.Items.{InSlots, InUse, InBlocks, slots-range, blocks-range}
-use Rattle.model.proofs.ItemLaws.{item-law}
+use Rattle.model.proofs.ItemLaws.{item-law, item-over}
 use Rattle.model.proofs.ItemValid.{items-this, changed-valid}
 use Rattle.model.proofs.Drawn.{times-append, drawn-here}
 use Rattle.model.specs.Rules.{itemTo, popped, slotTo, useTo}
@@ -94,27 +94,38 @@ module _ (S : Shape) where
             free-item = ap₂ (λ (x : List Slot) (l : List Block). used (page d j x) ∷ l) (y .free-item) (blocks-stay idle (index S + o) (p + z) bs (λ a f. unfold useSize in omega (arith, g .1)));
           }
 
-  module _ (w0 : 0 < S .word) (b : List ℕ) (L : Layout) (h : Here S b L) (c o : ℕ) (os : List ℕ) (cl : c < S .classes) (is : getD (L .lists) c [] ≡ o ∷ os) (room : 16 * length b + 4 * S .classes + 64 * S .word + 64 < 256 ^ S .word) where
-    pub counted : 1 ≤ times o (idleItems S c (start S) (L .blocks))
+  -- the first item on a list, of a valid layout
+  module _ {end : ℕ} {L : Layout} (v : Valid S end L) {c o : ℕ} {os : List ℕ} (cl : c < S .classes) (is : getD (L .lists) c [] ≡ o ∷ os) where
+    pub first-counted : 1 ≤ times o (idleItems S c (start S) (L .blocks))
     unfolding times
-    counted = rw (← (h .valid .listed c o cl)) (rw is (rw (eq-eqb o o refl) (omega arith)))
+    first-counted = rw (← (v .listed c o cl)) (rw is (rw (eq-eqb o o refl) (omega arith)))
 
-    pub found : IdleAt c (index S + o) (start S) (L .blocks)
-    found = items-found c o (start S) (L .blocks) (omega arith) counted
+    pub first-found : IdleAt c (index S + o) (start S) (L .blocks)
+    first-found = items-found c o (start S) (L .blocks) (omega arith) first-counted
 
     -- it is on the list but once
-    gone : times o os ≡ 0
+    first-once : times o os ≡ 0
     unfolding times
-    gone =
-        let e = rw is at (h .valid .listed c o cl) in
-        let f = ap (λ (bs : List Block). times o (idleItems S c (start S) bs)) (sym (found .free-item)) ∙ items-this S o (index S + o) refl idle c c (start S) (L .blocks) (omega arith) (found .there) in
+    first-once =
+        let e = rw is at (v .listed c o cl) in
+        let f = ap (λ (bs : List Block). times o (idleItems S c (start S) bs)) (sym (first-found .free-item)) ∙ items-this S o (index S + o) refl idle c c (start S) (L .blocks) (omega arith) (first-found .there) in
         omega (arith, rw (eq-eqb o o refl) at e, rw (eq-eqb c c refl) at f)
 
-    pub popped-valid : Valid S (endOf (length b)) (popped S c o os L)
+    pub pop-valid : Valid S end (popped S c o os L)
     unfolding times
-    popped-valid =
-        changed-valid S (endOf (length b)) L c (index S + o) o idle held os (h .valid) cl refl (found .there) (found .free-item) gone
+    pop-valid =
+        changed-valid S end L c (index S + o) o idle held os v cl refl (first-found .there) (first-found .free-item) first-once
         (λ x n. sym (ap (λ (l : List ℕ). times x l) is ∙ rw (ne-eqb x o n) (omega arith)))
+
+  module _ (w0 : 0 < S .word) (b : List ℕ) (L : Layout) (h : Here S b L) (c o : ℕ) (os : List ℕ) (cl : c < S .classes) (is : getD (L .lists) c [] ≡ o ∷ os) (room : 16 * length b + 4 * S .classes + 64 * S .word + 64 < 256 ^ S .word) where
+    pub counted : 1 ≤ times o (idleItems S c (start S) (L .blocks))
+    counted = first-counted (h .valid) cl is
+
+    pub found : IdleAt c (index S + o) (start S) (L .blocks)
+    found = first-found (h .valid) cl is
+
+    pub popped-valid : Valid S (endOf (length b)) (popped S c o os L)
+    popped-valid = pop-valid (h .valid) cl is
 
     pub popped-here : Here S (draw (S .word) (words S (endOf (length b)) (popped S c o os L)) b) (popped S c o os L)
     popped-here = drawn-here S b (popped S c o os L) (h .magic) popped-valid room
@@ -132,3 +143,9 @@ module _ (S : Shape) where
     unfolding header
     pop-law bytes f g =
         item-law S w0 (endOf (length b)) L (h .valid) c cl os (index S + o) o refl held agree (found .there) b (omega arith) bytes f g (omega arith) (h .shown)
+
+    -- drawn over the layout before it, the layout with the item in use is drawn alone
+    pub popped-over : (a : List ℕ) → length a ≡ length b → Bytes a
+        → draw (S .word) (words S (endOf (length b)) (popped S c o os L)) (draw (S .word) (words S (endOf (length b)) L) a) ≡ draw (S .word) (words S (endOf (length b)) (popped S c o os L)) a
+    popped-over a e bytes =
+        item-over S w0 (endOf (length b)) L (h .valid) c cl os (index S + o) o refl held agree (found .there) a (omega arith) bytes (omega arith) popped-valid

@@ -1,0 +1,46 @@
+use native.Mathlib.Omega.{arith}
+use Rattle.model.specs.Shape.{wide}
+use Rattle.model.proofs.Spots.{spot-middle}
+use Rattle.model.proofs.Taken.{block-in}
+use Rattle.engine.proofs.Allocating.{spotted, block-none, block-taken}
+use borrow.Author.Needs.{needs}
+use Rattle.engine.proofs.allocate.a_block.Statement.{statement}
+use Rattle.engine.proofs.allocate.a_block.Tie as tie
+use Rattle.engine.proofs.allocate.a_block.Reads as reads
+use Rattle.engine.proofs.allocate.a_block.Lts as lts
+use Rattle.engine.proofs.blocks.find_fit.Reads as find-fit-reads
+use Rattle.engine.proofs.blocks.take.Reads as take-reads
+use Rattle.model.proofs.address_of.Reads as address-of-reads
+
+find-fit-requires : tie.Need-find-fit-requires
+find-fit-requires c κs = search needs
+
+same-length : tie.Need-same-length
+same-length c = search needs
+
+returns : tie.Need-returns
+returns c = block-none (c .before .before .before .before .pre .0) _ (c .before .find-fit .result) (c .before .find-fit .ensures) (c .if1 .taken)
+
+take-requires : tie.Need-take-requires
+take-requires c κs = (spotted (c .before .before .before .before .before .pre .0) _ _ (c .before .before .find-fit .ensures) (c .before .if1 .left), c .before .before .before .before .before .pre .1)
+
+address-of-requires : tie.Need-address-of-requires
+address-of-requires c κs = omega (arith, block-in wide (spot-middle wide (spotted (c .before .before .before .before .before .before .before .before .pre .0) (c .before .before .before .before .before .before .before .before .args .need) (c .before .before .before .before .before .find-fit .result) (c .before .before .before .before .before .find-fit .ensures) (c .before .before .before .before .if1 .left) .is)), c .before .before .before .before .before .before .before .before .pre .0 .short)
+
+same-length-2 : tie.Need-same-length-2
+same-length-2 c = search needs
+
+returns-2 : tie.Need-returns-2
+returns-2 c = block-taken (c .before .before .before .before .before .before .before .before .before .pre .0) _ (c .before .before .before .before .before .before .find-fit .result) _ _ (c .before .before .before .before .before .before .find-fit .ensures) (c .before .before .before .before .before .if1 .left) (c .before .before .before .before .before .before .before .before .before .pre .1) (c .before .before .before .take .ensures) (c .address-of .ensures)
+
+pub a-block-spec : {M : Type 1} → statement M
+a-block-spec =
+    tie.close
+    (tie.spec
+    find-fit-requires
+    same-length
+    returns
+    take-requires
+    address-of-requires
+    same-length-2
+    returns-2)

@@ -1,0 +1,31 @@
+use mathlib.Core.Logic.{⊎-elim}
+use Rattle.engine.proofs.Taking.{low-rest, low-whole}
+use borrow.Author.Needs.{needs}
+use Rattle.engine.proofs.blocks.put_low.Statement.{statement}
+use Rattle.engine.proofs.blocks.put_low.Tie as tie
+use Rattle.engine.proofs.blocks.put_low.Reads as reads
+use Rattle.engine.proofs.blocks.put_low.Lts as lts
+use Rattle.words.proofs.put_word.Reads as put-word-reads
+
+add-first : tie.Need-add-first
+add-first c = search needs
+
+put-word-requires : tie.Need-put-word-requires
+put-word-requires c κs = search needs
+
+add-put-word : tie.Need-add-put-word
+add-put-word c = search needs
+
+put-word-requires-2 : tie.Need-put-word-requires-2
+put-word-requires-2 c κs = search needs
+
+same-length : tie.Need-same-length
+same-length c = search needs
+
+returns : tie.Need-returns
+returns c = ⊎-elim (λ w. low-rest _ _ _ _ (w .0 .taken) _ _ _ (w .1) (c .before .before .before .before .before .before .put-word .ensures) (c .before .before .put-word2 .ensures)) (λ w. low-whole _ _ _ _ (w .0 .left) _ _ _ (w .1) (c .before .before .before .before .before .before .put-word .ensures) (c .before .before .put-word2 .ensures)) (c .before .before .before .before .before .before .before .before .if1 .came)
+
+pub put-low-spec : {M : Type 1} → statement M
+put-low-spec =
+    tie.close
+    (tie.spec add-first put-word-requires add-put-word put-word-requires-2 same-length returns)

@@ -1,0 +1,39 @@
+use mathlib.Core.Path.{refl}
+use native.Mathlib.Omega.{arith}
+use Rattle.model.specs.Shape.{wide}
+use Rattle.model.proofs.Spots.{spot-middle}
+use Rattle.model.proofs.Taken.{block-in}
+use Rattle.engine.proofs.Taking.{gap-room, need-part}
+use Rattle.engine.proofs.Placing.{variable-drawn}
+use borrow.Author.Needs.{needs}
+use Rattle.engine.proofs.blocks.take.Statement.{statement}
+use Rattle.engine.proofs.blocks.take.Tie as tie
+use Rattle.engine.proofs.blocks.take.Reads as reads
+use Rattle.engine.proofs.blocks.take.Lts as lts
+use Rattle.engine.proofs.blocks.put_high.Reads as put-high-reads
+use Rattle.engine.proofs.blocks.put_low.Reads as put-low-reads
+use Rattle.engine.proofs.blocks.read.Reads as read-reads
+use Rattle.engine.proofs.blocks.taken.Reads as taken-reads
+
+read-requires : tie.Need-read-requires
+read-requires c κs = gap-room (spot-middle wide (c .before .before .pre .0 .is))
+
+taken-requires : tie.Need-taken-requires
+taken-requires c κs = omega (arith, c .before .before .before .pre .0 .is .split .large, block-in wide (spot-middle wide (c .before .before .before .pre .0 .is)), c .before .before .before .pre .1 .short)
+
+put-low-requires : tie.Need-put-low-requires
+put-low-requires c κs = need-part (spot-middle wide (c .before .before .before .before .before .pre .0 .is)) (c .before .before .read .result) (c .before .before .read .ensures) _ (c .before .taken .result) 2 _ (c .before .before .before .before .before .pre .0 .is .split .large) (c .before .taken .ensures) refl (omega (arith, c .before .before .before .before .before .pre .1 .short)) (omega (arith, c .before .before .before .before .before .pre .1 .large)) (omega arith)
+
+put-high-requires : tie.Need-put-high-requires
+put-high-requires c κs = need-part (spot-middle wide (c .before .before .before .before .before .before .before .before .before .pre .0 .is)) (c .before .before .before .before .before .before .read .result) (c .before .before .before .before .before .before .read .ensures) _ (c .before .before .before .before .before .taken .result) 2 _ (c .before .before .before .before .before .before .before .before .before .pre .0 .is .split .large) (c .before .before .before .before .before .taken .ensures) (search needs) (omega (arith, c .before .before .before .before .before .before .before .before .before .pre .1 .short)) (omega (arith, c .before .before .before .before .before .before .before .before .before .pre .1 .large)) (omega arith)
+
+same-length : tie.Need-same-length
+same-length c = search needs
+
+returns : tie.Need-returns
+returns c = record { draws = λ L t x. variable-drawn x (c .before .before .before .before .before .before .before .before .before .read .result) (c .before .before .before .before .before .before .before .before .before .read .ensures) (c .before .before .before .before .before .before .before .before .taken .result) (c .before .before .before .before .before .before .before .before .taken .ensures) (c .before .before .before .before .before .before .before .before .before .before .before .before .pre .1) (λ i. c .before .before .before .before .before .before .before .before .before .before .before .slice-known .given i .fits) _ _ (c .before .before .before .before .before .before .put-low .ensures) (c .before .before .put-high .ensures) }
+
+pub take-spec : {M : Type 1} → statement M
+take-spec =
+    tie.close
+    (tie.spec read-requires taken-requires put-low-requires put-high-requires same-length returns)

@@ -1,0 +1,20 @@
+use native.Mathlib.Omega.{arith}
+use Rattle.model.specs.Shape.{wide}
+use Rattle.model.proofs.Taken.{takes-low, takes-whole}
+use borrow.Author.Needs.{needs}
+use Rattle.engine.proofs.blocks.taken.Statement.{statement}
+use Rattle.engine.proofs.blocks.taken.Tie as tie
+use Rattle.engine.proofs.blocks.taken.Reads as reads
+use Rattle.engine.proofs.blocks.taken.Lts as lts
+
+add-if1 : tie.Need-add-if1
+add-if1 c = search needs
+
+returns : tie.Need-returns
+returns c = takes-low wide _ _ (omega arith)
+
+returns-2 : tie.Need-returns-2
+returns-2 c = takes-whole wide _ _ (omega arith)
+
+pub taken-spec : {M : Type 1} → statement M
+taken-spec = tie.close (tie.spec add-if1 returns returns-2)

@@ -1,0 +1,53 @@
+-- What allocating promises, past the check: the rule's address and bytes.
+use Prim.Native.Nat.{ℕ, _≤_, _<_}
+use mathlib.Core.Path.{_≡_}
+use mathlib.Core.List.{List, []}
+use mathlib.Core.Option.{Option, none, some}
+use lib.ListN.{length, getD}
+use Rattle.model.specs.Shape.{wide}
+use Rattle.model.specs.Layout.{Layout}
+use Rattle.model.specs.Sound.{Here, Sound}
+use Rattle.model.specs.Rules.{Made, fit, anItem, aBlock, allocate}
+use Rattle.model.specs.Calls.{drawn}
+use Rattle.engine.specs.Ready.{Ready}
+use Rattle.engine.specs.declared.allocate.Taken.{Taken}
+use Rattle.engine.specs.declared.allocate.Taken.the-variants.{At, NoRoom}
+
+-- and a class
+pub record ReadyClass (b : List ℕ) (c : ℕ) : Type 0 where
+  pub ready : Ready b
+  pub class : c < 32
+
+-- a size that may be asked for
+pub record Asked (n : ℕ) : Type 0 where
+  pub some-byte : 1 ≤ n
+  pub most : n ≤ 1048576
+
+-- the answer, the bytes and the layout for what a rule gives
+abbrev pub takenOf : Option Made → Taken
+takenOf none = NoRoom
+takenOf (some m) = At (record { 0 = m .at })
+
+abbrev pub bytesOf : List ℕ → Option Made → List ℕ
+bytesOf b none = b
+bytesOf b (some m) = drawn wide (m .layout) b
+
+abbrev pub layoutOf : Layout → Option Made → Layout
+layoutOf L none = L
+layoutOf L (some m) = m .layout
+
+-- of bytes b with layout L a rule gives o: the answer r, and bytes c that have the rule's layout
+pub record Gives (b : List ℕ) (L : Layout) (o : Option Made) (r : Taken) (c : List ℕ) : Type 0 where
+  pub answer : r ≡ takenOf o
+  pub bytes : c ≡ bytesOf b o
+  pub here : Here wide c (layoutOf L o)
+
+-- an item of a class; a variable block; allocate
+pub record GivesItem (b : List ℕ) (c : ℕ) (r : Taken) (a : List ℕ) : Type 0 where
+  pub is : (L : Layout) → Here wide b L → Gives b L (anItem wide c L (getD (L .lists) c [])) r a
+
+pub record GivesBlock (b : List ℕ) (need : ℕ) (r : Taken) (a : List ℕ) : Type 0 where
+  pub is : (L : Layout) → Here wide b L → Gives b L (aBlock wide need L (fit need (L .blocks))) r a
+
+pub record Allocates (b : List ℕ) (n : ℕ) (r : Taken) (a : List ℕ) : Type 0 where
+  pub is : (L : Layout) → Here wide b L → Gives b L (allocate wide n L) r a
