@@ -1,13 +1,14 @@
 -- What every call but initialise finds first, and what follows for its contract.
-use Prim.Native.Nat.{ℕ, _≤_}
-use mathlib.Core.Path.{_≡_, refl, sym, ap, _∙_}
+use Prim.Native.Nat.{ℕ}
+use mathlib.Core.Path.{_≡_, refl, sym, _∙_}
 use mathlib.Core.Bool.{Bool, true, false}
 use mathlib.Core.List.{List}
 use Rattle.words.specs.Word.{wordAt}
 use Rattle.model.specs.Shape.{wide}
 use Rattle.model.specs.Layout.{Layout}
 use Rattle.model.specs.Sound.{Here, Sound}
-use Rattle.model.specs.Calls.{Lent, Opened, Checked}
+use Rattle.model.specs.Calls.{Lent, Checked}
+use Rattle.engine.specs.Ready.{Ready}
 use Rattle.sound.specs.Tells.{Tells}
 use Rattle.sound.proofs.Tellings.{clash}
 use Rattle.heap.specs.declared.Refusal.{Refusal}
@@ -64,6 +65,7 @@ module _ (b : List ℕ) where
           sound = λ _ L h. d L h;
         }
 
-  pub fine-sound : (v : Verdict) → Examined b v → v ≡ Fine → Lent wide b × Sound wide b
+  -- what the engine then asks for
+  pub ready : (v : Verdict) → Examined b v → v ≡ Fine → Ready b
   unfolding Examined
-  fine-sound v x e = rw e at x
+  ready v x e = let y : Lent wide b × Sound wide b = rw e at x in record { sound = y .1; short = y .0 .1 }

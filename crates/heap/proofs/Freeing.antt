@@ -1,22 +1,16 @@
 -- Free: what each way through the call shows of its contract.
 use Prim.Native.Nat.{ℕ}
 use mathlib.Core.Path.{_≡_, refl, sym, ap, _∙_}
-use mathlib.Core.Bool.{Bool, true, false, cond}
+use mathlib.Core.Bool.{Bool, true, false}
 use mathlib.Core.List.{List}
-use native.Mathlib.Omega.{arith}
 use Rattle.model.specs.Shape.{wide}
 use Rattle.model.specs.Layout.{Layout}
-use Rattle.model.specs.Sound.{Here, Sound}
+use Rattle.model.specs.Sound.{Here}
 use Rattle.model.specs.Rules.{Found, block, thing, nothing, find, freed}
 use Rattle.model.specs.Refusals.{notLive}
-use Rattle.model.specs.Calls.{Outcome, refused, granted, Lent, found, drawn, without}
+use Rattle.model.specs.Calls.{refused, granted, found, drawn, without}
 use Rattle.engine.specs.Free.{isFound, freedBytes, Freed}
-use Rattle.engine.specs.Ready.{Ready}
 use Rattle.sound.proofs.Tellings.{clash}
-
--- a sound heap of a good length is what the engine asks for
-pub lively : {b : List ℕ} → Lent wide b × Sound wide b → Ready b
-lively x = record { sound = x .1; short = x .0 .1 }
 
 module _ (b : List ℕ) (a : ℕ) (r : Bool) (c : List ℕ) (f : Freed b a r c) (L : Layout) (h : Here wide b L) where
   pub gave-back : r ≡ true → granted 0 c ≡ found wide (find wide a L) (refused b notLive) (granted 0 (drawn wide (without wide a L) b))

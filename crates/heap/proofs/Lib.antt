@@ -1,3 +1,4 @@
 mod Opening
 mod Examining
+mod Allocating
 mod Freeing

@@ -5,6 +5,8 @@ use Rattle.model.specs.Shape.{wide}
 use Rattle.model.specs.Sound.{Sound}
 use Rattle.model.specs.Refusals.{badLength, notOpened, notSound, badSize, notLive, noRoom, alreadyOpened}
 use Rattle.model.specs.Calls.{Outcome, refused, granted, Lent, Opened}
+use Rattle.engine.specs.declared.allocate.Taken.{Taken}
+use Rattle.engine.specs.declared.allocate.Taken.the-variants as taken
 use Rattle.heap.specs.declared.Refusal.{Refusal}
 use Rattle.heap.specs.declared.Refusal.the-variants.{BadLength, NotOpened, NotSound, BadSize, NotLive, NoRoom, AlreadyOpened}
 use Rattle.heap.specs.declared.Answer.{Answer}
@@ -40,3 +42,8 @@ UnfitFor b AlreadyOpened = ⊥
 unfoldable pub Examined : List ℕ → Verdict → Type 0
 Examined b Fine = Lent wide b × Sound wide b
 Examined b (Unfit k) = UnfitFor b k
+
+-- what an allocation found, as an answer
+abbrev pub answerOf : Taken → Answer
+answerOf (taken.At a) = Granted a
+answerOf taken.NoRoom = Refused NoRoom

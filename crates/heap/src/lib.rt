@@ -1,4 +1,5 @@
 // The heap's calls. Each checks what it is lent: it does what document 01's rule says, or refuses and leaves every byte.
+use engine::allocate as taking;
 use engine::free as giving;
 use engine::fresh;
 use model::Address;
@@ -10,9 +11,9 @@ use words::word;
 ghost use mathlib.Core.Path.{_≡_};
 ghost use Prim.Native.Nat.{_≤_};
 ghost use Rattle.model.specs.Shape.{wide};
-ghost use Rattle.model.specs.Calls.{Lent, Initialises, Checks, Frees};
+ghost use Rattle.model.specs.Calls.{Lent, Initialises, Checks, Allocates, Frees};
 ghost use Rattle.sound.specs.Tells.{Tells};
-ghost use Rattle.heap.specs.Answers.{Examined, outcome, refusalNumber};
+ghost use Rattle.heap.specs.Answers.{Examined, answerOf, outcome, refusalNumber};
 
 // Why a call says no, in the order of document 01's numbers, 1 to 7.
 pub enum Refusal {
@@ -101,6 +102,34 @@ pub fn check(h: &[u8]) -> Answer
         Verdict::Unfit(k) => Answer::Refused(k),
         Verdict::Fine => Answer::Granted(Address(0)),
     }
+}
+
+// What an allocation found, as an answer.
+fn granted_or_not(t: taking::Taken) -> Answer
+    ensures { λ r. ⌜ r ≡ answerOf t ⌝ }
+{
+    match t {
+        taking::Taken::At(a) => Answer::Granted(a),
+        taking::Taken::NoRoom => Answer::Refused(Refusal::NoRoom),
+    }
+}
+
+// Gives a record of n bytes.
+pub fn allocate(h: &mut [u8], n: usize) -> Answer
+    ensures { λ r. ⌜ Allocates wide (now (h .entry)) n (outcome r (now (h .exit))) ⌝ }
+{
+    let v = examine(h);
+    if let Verdict::Unfit(k) = v {
+        return Answer::Refused(k);
+    }
+    if n == 0 {
+        return Answer::Refused(Refusal::BadSize);
+    }
+    if LONGEST < n {
+        return Answer::Refused(Refusal::BadSize);
+    }
+    let t = taking::allocate(h, n);
+    granted_or_not(t)
 }
 
 // Gives back the record at a.

@@ -5,7 +5,7 @@ use model::Address;
 ghost use mathlib.Core.Path.{_≡_};
 ghost use mathlib.Core.List.{[]};
 ghost use Rattle.model.specs.Shape.{wide};
-ghost use Rattle.model.specs.Calls.{Initialises, Checks, Frees};
+ghost use Rattle.model.specs.Calls.{Initialises, Checks, Allocates, Frees};
 ghost use Rattle.heap.specs.Answers.{outcome};
 ghost use Rattle.host.specs.Numbers.{Numbered};
 
@@ -31,6 +31,13 @@ pub extern "C" fn heap_check(h: &[u8]) -> u64
     ensures { λ r. ⌜ Numbered (Checks wide (now (h .entry))) r (now (h .entry)) ⌝ }
 {
     number(heap::check(h))
+}
+
+#[no_mangle]
+pub extern "C" fn heap_allocate(h: &mut [u8], size: u64) -> u64
+    ensures { λ r. ⌜ Numbered (Allocates wide (now (h .entry)) size) r (now (h .exit)) ⌝ }
+{
+    number(heap::allocate(h, size as usize))
 }
 
 #[no_mangle]

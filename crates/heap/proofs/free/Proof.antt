@@ -1,5 +1,5 @@
-use Rattle.heap.proofs.Freeing.{lively, gave-back, nothing-there}
-use Rattle.heap.proofs.Examining.{refuses, decides, fine-sound}
+use Rattle.heap.proofs.Freeing.{gave-back, nothing-there}
+use Rattle.heap.proofs.Examining.{refuses, decides, ready}
 use borrow.Author.Needs.{needs}
 use Rattle.heap.proofs.free.Statement.{statement}
 use Rattle.heap.proofs.free.Tie as tie
@@ -18,7 +18,7 @@ enum-told : tie.Need-enum-told
 enum-told c = search needs
 
 free-requires : tie.Need-free-requires
-free-requires c κs = lively (fine-sound _ _ (c .before .before .before .examine .ensures) (c .before .enum-told .given .1))
+free-requires c κs = ready _ _ (c .before .before .before .examine .ensures) (c .before .enum-told .given .1)
 
 same-length : tie.Need-same-length
 same-length c = search needs

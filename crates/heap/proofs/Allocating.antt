@@ -1,0 +1,41 @@
+-- Allocate: what each way through the call shows of its contract.
+use Prim.Native.Nat.{ℕ, _≤_, _<_}
+use mathlib.Core.Path.{_≡_, refl, sym, ap, _∙_}
+use mathlib.Core.List.{List}
+use mathlib.Core.Option.{Option, none, some}
+use native.Mathlib.Omega.{arith}
+use borrow.Author.Tests.{le-leb, lt-leb}
+use Rattle.model.specs.Shape.{wide}
+use Rattle.model.specs.Layout.{Layout}
+use Rattle.model.specs.Sound.{Here}
+use Rattle.model.specs.Rules.{Made, allocate}
+use Rattle.model.specs.Refusals.{badSize}
+use Rattle.model.specs.Calls.{Outcome, refused, sized, made, allocated, drawn}
+use Rattle.engine.specs.declared.allocate.Taken.{Taken}
+use Rattle.engine.specs.Allocate.{takenOf, bytesOf, Gives, Allocates}
+use Rattle.heap.specs.declared.Answer.{Answer}
+use Rattle.heap.specs.Answers.{answerOf, outcome}
+
+-- a size that is bad, and one that is good
+module _ (n : ℕ) (b : List ℕ) (next : Outcome) where
+  pub too-small : n ≡ 0 → refused b badSize ≡ sized wide n b next
+  too-small e = rw e refl
+
+  pub too-large : 1048576 < n → refused b badSize ≡ sized wide n b next
+  too-large l = rw (le-leb 1 n (omega arith), lt-leb n 1048576 l) refl
+
+  pub good-size : 1 ≤ n → n ≤ 1048576 → sized wide n b next ≡ next
+  good-size l m = rw (le-leb 1 n l, le-leb n 1048576 m) refl
+
+-- what the engine gives is what the contract says
+gives-made : (b c : List ℕ) (L : Layout) (o : Option Made) (t : Taken) → Gives b L o t c → outcome (answerOf t) c ≡ made wide b o (λ m. drawn wide (m .layout) b)
+gives-made b c L o t g = rw (g .answer, g .bytes) (go o)
+  where
+    go : (o : Option Made) → outcome (answerOf (takenOf o)) (bytesOf b o) ≡ made wide b o (λ m. drawn wide (m .layout) b)
+    go none = refl
+    go (some m) = refl
+
+pub allocates : (b : List ℕ) (n : ℕ) (t : Taken) (r : Answer) (c : List ℕ) → 1 ≤ n → n ≤ 1048576 → Allocates b n t c → r ≡ answerOf t → (L : Layout) → Here wide b L
+    → outcome r c ≡ sized wide n b (allocated wide b n L)
+allocates b n t r c l m g e L h =
+    ap (λ (x : Answer). outcome x c) e ∙ gives-made b c L (allocate wide n L) t (g .is L h) ∙ sym (good-size n b (allocated wide b n L) l m)
