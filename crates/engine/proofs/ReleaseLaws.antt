@@ -21,7 +21,7 @@ use Rattle.model.proofs.Middle.{linkOf, Middle, middle-at, FreeAt, start-le, mi
 use Rattle.model.proofs.Drawn.{drawn-here}
 use Rattle.model.proofs.Standing.{sizes}
 use Rattle.model.proofs.Finding.{block-found}
-use Rattle.model.proofs.Releasing.{Side, nobody, neighbour, left-side, right-side, right-not, old, sides-blocks, left-clear, released-is, ends-old, released-valid}
+use Rattle.model.proofs.Releasing.{free-or-not, Side, nobody, neighbour, left-side, right-side, right-not, old, sides-blocks, left-clear, released-is, ends-old, released-valid}
 use Rattle.engine.specs.declared.find.Block as found
 use Rattle.engine.specs.Find.{BlockFound}
 use Rattle.engine.specs.Links.{LinkRoom, freeWords, linkedBytes}
@@ -300,12 +300,6 @@ module _ (b : List ℕ) (L : Layout) (t : Spot) (from to before behind : ℕ) (h
       valid-size : 32 ≤ j .l + (t .size + j .r)
       valid-size = unfold AllAllowed Allowed in allowed-left wide (free size ∷ []) (j .post) (allowed-right wide (j .pre) ((free size ∷ []) ++ j .post) (valid .allowed)) .0 .0
 
-left-or-not : (d : ℕ) (bs : List Block) → (d ≡ 0) ⊎ (d ≡ 1) → (endsFree d bs ≡ 0) ⊎ (endsFree d bs ≡ 1)
-unfolding endsFree
-left-or-not d [] z = z
-left-or-not d (free s ∷ bs) z = left-or-not 1 bs (inr refl)
-left-or-not d (used u ∷ bs) z = left-or-not 0 bs (inl refl)
-
 -- what code reads and writes, in its own numbers
 module _ (b : List ℕ) (x : found.Block) (k : BlockLive b x) where
   live : Middle wide b (endOf (length b)) (k .layout .lists) (k .spot .pre) (used (variable (k .spot .size)) ∷ []) (k .spot .post) (x .at .0) (x .at .0 + x .size) (x .prev .0) (firstFree wide (x .at .0 + x .size) (k .spot .post) 0)
@@ -343,7 +337,7 @@ module _ (b : List ℕ) (x : found.Block) (k : BlockLive b x) where
       (eh : behind ≡ rightFree b (x .at .0 + x .size) next) where
     join : (L : Layout) (a : ℕ) (t : Spot) → Here wide b L → BlockFound L a t x → Joining b L t from to before behind
     join L a t h f =
-        joining b L a t x h f (⊎-elim (λ z. inl (sym (f .touches) ∙ z)) (λ z. inr (sym (f .touches) ∙ z)) (left-or-not 0 (t .pre) (inl refl))) next from to before behind en ef eb et eh
+        joining b L a t x h f (⊎-elim (λ z. inl (sym (f .touches) ∙ z)) (λ z. inr (sym (f .touches) ∙ z)) (free-or-not 0 (t .pre) (inl refl))) next from to before behind en ef eb et eh
 
     pub release-room : LinkRoom b from to before behind
     release-room =

@@ -1,56 +1,24 @@
 -- Offsets of free items are multiples of 8, so a header's low seven bits are its class and its flags. (At document 01's shape.)
-use Prim.Native.Nat.{ℕ, zero, suc, _+_, _-_, _*_, _/_, _%_, _≤_, _<_}
+use Prim.Native.Nat.{ℕ, zero, suc, _+_, _-_, _*_, _/_, _%_, _<_}
 use mathlib.Core.Path.{_≡_, refl, sym, ap, _∙_}
-use mathlib.Core.Bool.{Bool, true, false, cond}
 use mathlib.Core.List.{List, [], _∷_}
 use mathlib.Core.Logic.{⊎-elim}
 use native.Mathlib.Omega.{arith}
-use native.Mathlib.Decide.{ℕ-discrete, decLe}
 use lib.ListN.{length, getD}
-use lib.Dec.{eqb}
 use borrow.Author.Tests.{eq-eqb, ne-eqb}
 use Rattle.words.specs.Word.{wordAt}
 use Rattle.model.specs.Shape.{wide, item, addressOf, offsetOf}
 use Rattle.model.specs.Picture.{Shows}
-use Rattle.model.specs.Layout.{Slot, idle, held, variable, page, Block, free, used, Layout, nextOf, sizeOf, header, slotWords}
-use Rattle.model.specs.Sound.{times, AllAllowed, idleSlots, idleIn, idleItems, Valid}
+use Rattle.model.specs.Layout.{Slot, idle, held, Layout, nextOf, header, slotWords}
+use Rattle.model.specs.Sound.{Valid}
 use Rattle.model.specs.Rules.{thing, nothing, inSlots}
-use Rattle.model.proofs.Drawn.{times-append, next-of}
-use Rattle.model.proofs.Standing.{sizes}
+use Rattle.model.proofs.Drawn.{next-of}
+use Rattle.model.proofs.Offsets.{items-off}
 use Rattle.model.proofs.Finding.{slots-below}
-
-slots-aligned : (c o p : ℕ) (ss : List Slot) → p % 8 ≡ 0 → 1 ≤ times o (idleSlots wide c p ss) → o % 8 ≡ 0
-unfolding idleSlots times
-slots-aligned c o p [] m k = absurd (omega arith)
-slots-aligned c o p (held ∷ ss) m k = slots-aligned c o (p + item wide c) ss (omega arith) k
-slots-aligned c o p (idle ∷ ss) m k = go (ℕ-discrete o (offsetOf wide p)) (slots-aligned c o (p + item wide c) ss (omega arith))
-  where
-    go : Dec (o ≡ offsetOf wide p) → (1 ≤ times o (idleSlots wide c (p + item wide c) ss) → o % 8 ≡ 0) → o % 8 ≡ 0
-    go (yes e) r = omega arith
-    go (no e) r = r (omega (arith, rw (ne-eqb o (offsetOf wide p) e) at k))
-
-in-aligned : (c o p : ℕ) (b : Block) → p % 8 ≡ 0 → 1 ≤ times o (idleIn wide c p b) → o % 8 ≡ 0
-unfolding idleIn times
-in-aligned c o p (free s) m k = absurd (omega arith)
-in-aligned c o p (used (variable s)) m k = absurd (omega arith)
-in-aligned c o p (used (page d j ss)) m k = go (eqb c d) k
-  where
-    go : (t : Bool) → 1 ≤ times o (cond t (idleSlots wide d (p + 8) ss) []) → o % 8 ≡ 0
-    go true k = slots-aligned d o (p + 8) ss (omega arith) k
-    go false k = absurd (omega arith)
-
-pub items-aligned : (c o p : ℕ) (bs : List Block) → AllAllowed wide bs → p % 8 ≡ 0 → 1 ≤ times o (idleItems wide c p bs) → o % 8 ≡ 0
-unfolding idleItems AllAllowed
-items-aligned c o p [] a m k = absurd (unfold times in omega arith)
-items-aligned c o p (b ∷ bs) a m k = go (decLe 1 (times o (idleIn wide c p b))) (items-aligned c o (p + sizeOf wide b) bs (a .1) (omega (arith, sizes b (a .0) .1)))
-  where
-    go : Dec (1 ≤ times o (idleIn wide c p b)) → (1 ≤ times o (idleItems wide c (p + sizeOf wide b) bs) → o % 8 ≡ 0) → o % 8 ≡ 0
-    go (yes i) r = in-aligned c o p b m i
-    go (no n) r = r (omega (arith, times-append o (idleIn wide c p b) (idleItems wide c (p + sizeOf wide b) bs)))
 
 pub next-aligned : (end : ℕ) (L : Layout) → Valid wide end L → (c o : ℕ) → c < 32 → nextOf o (getD (L .lists) c []) % 8 ≡ 0
 next-aligned end L v c o l =
-    ⊎-elim (λ e. omega arith) (λ e. items-aligned c (nextOf o (getD (L .lists) c [])) 312 (L .blocks) (v .allowed) (omega arith) (rw (v .listed c (nextOf o (getD (L .lists) c [])) l) at e))
+    ⊎-elim (λ e. omega arith) (λ e. items-off c (nextOf o (getD (L .lists) c [])) 312 (L .blocks) (v .allowed) (omega arith) (omega arith) (rw (v .listed c (nextOf o (getD (L .lists) c [])) l) at e) .eight)
     (next-of o (getD (L .lists) c []))
 
 -- a page's items, as their headers tell them

@@ -21,6 +21,7 @@ pub mod FreeWalk
 pub mod Middle
 pub mod Standing
 pub mod Finding
+pub mod Offsets
 pub mod Aligned
 pub mod Releasing
 pub mod Spots

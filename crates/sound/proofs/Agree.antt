@@ -16,7 +16,8 @@ use Rattle.sound.specs.Runs.{Slots, flagOf, Headers, Reads, freeIn, free
 use Rattle.sound.specs.Maps.{Clear}
 use Rattle.sound.specs.Lists.{Chain, Chains, flat, Listed, Filled}
 use Rattle.sound.specs.Parts.{Walk}
-use Rattle.sound.proofs.Offsets.{slots-header, items-header, items-off}
+use Rattle.model.proofs.Offsets.{items-off}
+use Rattle.sound.proofs.ItemHeaders.{slots-header, items-header}
 use Rattle.sound.proofs.Chained.{chain-item, chains-at}
 use Rattle.sound.proofs.OneLayout.{blocks-one}
 

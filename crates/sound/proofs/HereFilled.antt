@@ -1,8 +1,7 @@
 -- A sound heap passes the tests. (At document 01's shape.)
-use Prim.Native.Nat.{ℕ, zero, suc, _+_, _-_, _*_, _%_, _≤_, _<_}
-use mathlib.Core.Path.{_≡_, refl, sym, ap, subst, _∙_}
+use Prim.Native.Nat.{ℕ, _+_, _-_, _*_, _%_, _≤_, _<_}
+use mathlib.Core.Path.{_≡_, refl, sym, subst, _∙_}
 use mathlib.Core.List.{List, [], _∷_, _++_}
-use mathlib.Core.Logic.{⊎-elim}
 use native.Mathlib.Omega.{arith}
 use native.Mathlib.Decide.{ℕ-discrete}
 use lib.ListN.{length, getD}
@@ -13,11 +12,12 @@ use Rattle.model.specs.Shape.{wide, item, endOf}
 use Rattle.model.specs.Layout.{Slot, idle, held, variable, page, Block, free, used, Layout, headOf, nextOf, useSize, sizeOf, firstFree, header, slotWords, useWords, own, blockWords, headWords, fixedLow, fixedHigh, words}
 use Rattle.model.specs.Sound.{times, AllowedUse, Allowed, AllAllowed, idleItems, Here, Sound}
 use Rattle.model.proofs.Pictures.{shows-left, shows-right}
-use Rattle.model.proofs.Drawn.{next-of}
 use Rattle.sound.specs.Runs.{Slots, flagOf, Headers, Reads}
 use Rattle.sound.specs.Lists.{ItemAt, named, Chain, Chains, Filled}
 use Rattle.sound.specs.Parts.{Fixed}
-use Rattle.sound.proofs.Offsets.{items-off, items-once, items-read}
+use Rattle.model.proofs.Offsets.{items-off, items-once}
+use Rattle.model.proofs.Shown.{blocks-shown, head-read, item-read}
+use Rattle.model.proofs.Aligned.{next-aligned}
 use Rattle.sound.proofs.Chained.{chains-of}
 
 module _ (b : List ℕ) (ls : List (List ℕ)) (aligned : (c x : ℕ) → c < 32 → nextOf x (getD ls c []) % 8 ≡ 0) where
@@ -39,12 +39,6 @@ module _ (b : List ℕ) (ls : List (List ℕ)) (aligned : (c x : ℕ) → c < 32
         reads-of (p + z) prev bs (a .1) (shows-right 8 b (slotWords wide c (getD ls c []) (p + 8) ss ++ record { at = p + z - 8; is = z + 3 } ∷ []) (blockWords wide ls (p + z) prev 0 bs) (s .1)),
       )
 
-heads-read : (b : List ℕ) (p c : ℕ) (ms : List (List ℕ)) → c < length ms → Shows 8 b (headWords wide p ms) → wordAt 8 b (p + 8 * c) ≡ headOf (getD ms c [])
-unfolding headWords Shows
-heads-read b p c [] h s = absurd (omega arith)
-heads-read b p zero (m ∷ ms) h s = ap (λ (x : ℕ). wordAt 8 b x) (omega arith) ∙ s .0
-heads-read b p (suc c) (m ∷ ms) h s = ap (λ (x : ℕ). wordAt 8 b x) (omega arith) ∙ heads-read b (p + 8) c ms (omega arith) (s .1)
-
 -- a list whose headers name what comes next is walked from its head
 chain-of : (b : List ℕ) (end c : ℕ) (l : List ℕ) → c < 32 → ((x : ℕ) → times x l ≤ 1) → ((x : ℕ) → 1 ≤ times x l → ItemAt b end c x × (wordAt 8 b (48 + x) ≡ 16 * nextOf x l + 4 * c + 1)) → Chain b end c (headOf l) l
 unfolding Chain headOf times nextOf
@@ -60,18 +54,8 @@ chain-of b end c (y ∷ ys) cl once h =
     go x i (no e) = let k = h x (omega arith) in (k .0, k .1 ∙ rw (ne-eqb x y e) refl)
 
 module _ (b : List ℕ) (L : Layout) (h : Here wide b L) where
-  blocks-shown : Shows 8 b (blockWords wide (L .lists) 312 0 0 (L .blocks))
-  unfolding words fixedLow Shows
-  blocks-shown = shows-right 8 b (fixedHigh wide (endOf (length b)) (L .lists)) (blockWords wide (L .lists) 312 0 0 (L .blocks)) (h .shown .1 .1 .1)
-
-  -- what the lists hold is aligned
-  next-aligned : (c x : ℕ) → c < 32 → nextOf x (getD (L .lists) c []) % 8 ≡ 0
-  next-aligned c x k =
-      ⊎-elim (λ e. rw e refl) (λ e. items-off c (nextOf x (getD (L .lists) c [])) 312 (L .blocks) (h .valid .allowed) (omega arith) (omega arith) (rw (h .valid .listed c (nextOf x (getD (L .lists) c [])) k) at e) .eight)
-      (next-of x (getD (L .lists) c []))
-
   pub here-reads : Reads b 312 0 (L .blocks)
-  here-reads = reads-of b (L .lists) next-aligned 312 0 (L .blocks) (h .valid .allowed) blocks-shown
+  here-reads = reads-of b (L .lists) (λ c x k. next-aligned (endOf (length b)) L (h .valid) c x k) 312 0 (L .blocks) (h .valid .allowed) (blocks-shown wide b L h)
 
   linked : firstFree wide 312 (L .blocks) 0 ≡ wordAt 8 b 24
   unfolding words fixedLow Shows
@@ -96,14 +80,14 @@ module _ (b : List ℕ) (L : Layout) (h : Here wide b L) where
 
   here-chain : (c : ℕ) → c < 32 → Chain b (endOf (length b)) c (wordAt 8 b (48 + 8 * c)) (getD (L .lists) c [])
   here-chain c k =
-      rw (heads-read b 48 c (L .lists) (omega (arith, h .valid .classes)) (shows-left 8 b (headWords wide 48 (L .lists)) (record { at = 304; is = 275 } ∷ []) head-words))
+      rw (head-read wide b L h c k)
       (chain-of b (endOf (length b)) c (getD (L .lists) c []) k (λ x. rw (h .valid .listed c x k) (items-once c x 312 (L .blocks) (h .valid .allowed) (omega arith) (omega arith))) (λ x i. go x (rw (h .valid .listed c x k) at i)))
     where
       go : (x : ℕ) → 1 ≤ times x (idleItems wide c 312 (L .blocks)) → ItemAt b (endOf (length b)) c x × (wordAt 8 b (48 + x) ≡ 16 * nextOf x (getD (L .lists) c []) + 4 * c + 1)
       go x i =
           let o = items-off c x 312 (L .blocks) (h .valid .allowed) (omega arith) (omega arith) i in
-          let r = items-read b (L .lists) c x 312 0 (L .blocks) (omega arith) blocks-shown i in
-          (record { nonzero = λ e. omega (arith, o .low); eight = o .eight; inside = omega (arith, o .high, h .valid .fills); header = omega (arith, r, next-aligned c x k) }, r)
+          let r = item-read wide b L h c x i in
+          (record { nonzero = λ e. omega (arith, o .low); eight = o .eight; inside = omega (arith, o .high, h .valid .fills); header = omega (arith, r, next-aligned (endOf (length b)) L (h .valid) c x k) }, r)
 
   pub here-chains : Chains b (endOf (length b)) 0 (L .lists)
   here-chains = chains-of b (endOf (length b)) (L .lists) (h .valid .classes) here-chain

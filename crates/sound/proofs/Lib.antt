@@ -4,7 +4,7 @@ pub mod Pages
 pub mod Walks
 pub mod Chained
 pub mod Clearing
-pub mod Offsets
+pub mod ItemHeaders
 pub mod FilledHere
 pub mod HereFilled
 pub mod OneLayout

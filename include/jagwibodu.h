@@ -1,0 +1,45 @@
+/* Jagwibodu: a proved heap inside one lent buffer of bytes. Link with libhost.a (make lib).
+
+   Each call takes the buffer and its length in bytes, 344 to 1,048,576, the same length every time. It answers one
+   number, refusal * 2^32 + address: refusal 0 means granted, and the address is a position in the buffer, 0 where the
+   call gives none. Every call checks the whole heap first. A refused call leaves every byte as it was. Calls are safe
+   for all bytes, addresses and sizes; they need no more than 17 KiB of stack and use nothing but the buffer. */
+#ifndef JAGWIBODU_H
+#define JAGWIBODU_H
+
+#include <stddef.h>
+#include <stdint.h>
+
+enum jagwibodu_refusal {
+    JAGWIBODU_GRANTED = 0,
+    JAGWIBODU_BAD_LENGTH = 1,    /* the buffer is shorter than 344 or longer than 1,048,576 bytes */
+    JAGWIBODU_NOT_OPENED = 2,    /* its first 8 bytes are not a heap's */
+    JAGWIBODU_NOT_SOUND = 3,     /* the heap is damaged */
+    JAGWIBODU_BAD_SIZE = 4,      /* the size is 0 or above 1,048,576 */
+    JAGWIBODU_NOT_LIVE = 5,      /* no record is live at the address */
+    JAGWIBODU_NO_ROOM = 6,       /* no item and no block is free for it */
+    JAGWIBODU_ALREADY_OPENED = 7 /* initialise, and the buffer holds a heap */
+};
+
+/* The two parts of an answer. */
+#define JAGWIBODU_REFUSAL(answer) ((enum jagwibodu_refusal)((answer) >> 32))
+#define JAGWIBODU_ADDRESS(answer) ((size_t)((answer) & 0xffffffffu))
+
+/* Opens a heap in a buffer that holds none: 0, or refused with 1 or 7. */
+uint64_t heap_initialise(uint8_t *buffer, size_t length);
+
+/* Says whether the buffer holds a sound heap: 0, or 1, 2, 3. Changes nothing. */
+uint64_t heap_check(const uint8_t *buffer, size_t length);
+
+/* Gives a record of at least `size` bytes, that overlaps no other; its bytes are whatever was there. Refused with 1 to
+   4, or 6. */
+uint64_t heap_allocate(uint8_t *buffer, size_t length, uint64_t size);
+
+/* Gives the record at `address` a new size, where it stands or elsewhere, with the bytes that both sizes share. Refused
+   with 1 to 6; then the record stays as it was. */
+uint64_t heap_resize(uint8_t *buffer, size_t length, uint64_t address, uint64_t size);
+
+/* Gives the record at `address` back. Refused with 1, 2, 3 or 5. */
+uint64_t heap_free(uint8_t *buffer, size_t length, uint64_t address);
+
+#endif
