@@ -7,10 +7,10 @@ use Rattle.model.specs.declared.Position.{Position}
 use Rattle.model.specs.Shape.{wide}
 use Rattle.model.specs.Layout.{Layout}
 use Rattle.model.specs.Sound.{Here}
-use Rattle.engine.specs.declared.find.Block.{Block}
-use Rattle.engine.specs.declared.find.Live.{Live}
-use Rattle.engine.specs.declared.find.Live.the-variants.{Nothing, Item, Variable}
-use Rattle.engine.specs.Find.{Finds}
+use Rattle.find.specs.declared.Block.{Block}
+use Rattle.find.specs.declared.Live.{Live}
+use Rattle.find.specs.declared.Live.the-variants.{Nothing, Item, Variable}
+use Rattle.find.specs.Find.{Finds}
 use Rattle.engine.specs.Items.{ItemLive, GaveItem}
 use Rattle.engine.specs.Release.{BlockLive, Released}
 use Rattle.engine.specs.Free.{isFound, freedBytes, Freed}

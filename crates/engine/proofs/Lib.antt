@@ -1,5 +1,3 @@
-mod FreshWords
-mod FindLaws
 mod ReleaseLaws
 mod GiveLaws
 mod FreeLaws

@@ -22,9 +22,9 @@ use Rattle.model.proofs.Drawn.{drawn-here}
 use Rattle.model.proofs.Standing.{sizes}
 use Rattle.model.proofs.Finding.{block-found}
 use Rattle.model.proofs.Releasing.{free-or-not, Side, nobody, neighbour, left-side, right-side, right-not, old, sides-blocks, left-clear, released-is, ends-old, released-valid}
-use Rattle.engine.specs.declared.find.Block as found
-use Rattle.engine.specs.Find.{BlockFound}
-use Rattle.engine.specs.Links.{LinkRoom, freeWords, linkedBytes}
+use Rattle.find.specs.declared.Block as found
+use Rattle.find.specs.Find.{BlockFound}
+use Rattle.links.specs.Links.{LinkRoom, freeWords, linkedBytes}
 use Rattle.engine.specs.Release.{leftAt, leftFree, rightAt, rightFree, RightRoom, BlockLive, Released}
 
 -- the edges, by cases

@@ -17,7 +17,7 @@ use Rattle.model.proofs.Replace.{three}
 use Rattle.model.proofs.Middle.{linkOf, backOf, putIf, Middle, link-in, prev-in, next-in, back-in}
 use Rattle.model.proofs.Taken.{takes, takes-of, restAt, restWords, parts, size-there, next-there, prev-there, size-least, ends-there, block-in, took}
 use Rattle.engine.specs.declared.blocks.Gap.{Gap}
-use Rattle.engine.specs.Links.{freeWords}
+use Rattle.links.specs.Links.{freeWords}
 use Rattle.engine.specs.Blocks.{GapRoom, GapRead, PartRoom, lowWords, highWords}
 
 module _ (g : Gap) (u kind : ℕ) (b : List ℕ) where

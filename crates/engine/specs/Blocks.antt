@@ -15,7 +15,7 @@ use Rattle.model.proofs.Middle.{linkOf, backOf}
 use Rattle.model.proofs.Spots.{SpotIn}
 use Rattle.model.proofs.Taken.{restAt}
 use Rattle.engine.specs.declared.blocks.Gap.{Gap}
-use Rattle.engine.specs.Links.{BackRoom, freeWords}
+use Rattle.links.specs.Links.{BackRoom, freeWords}
 
 -- a free block stands at p, as far as reading it asks
 pub record GapRoom (b : List ℕ) (p : ℕ) : Type 0 where

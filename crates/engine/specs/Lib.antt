@@ -1,10 +1,7 @@
 pub mod Ready
-pub mod Fresh
-pub mod Links
 pub mod Blocks
 pub mod Items
 pub mod Pages
 pub mod Allocate
-pub mod Find
 pub mod Release
 pub mod Free

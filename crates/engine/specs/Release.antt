@@ -11,8 +11,8 @@ use Rattle.model.specs.Layout.{Layout}
 use Rattle.model.specs.Sound.{Here, Sound}
 use Rattle.model.specs.Rules.{Spot, block, freed}
 use Rattle.model.specs.Calls.{drawn}
-use Rattle.engine.specs.declared.find.Block.{Block}
-use Rattle.engine.specs.Find.{BlockFound}
+use Rattle.find.specs.declared.Block.{Block}
+use Rattle.find.specs.Find.{BlockFound}
 
 -- the low edge of what the block at p becomes, and the free block before that
 abbrev pub leftAt : ℕ → ℕ → ℕ → ℕ

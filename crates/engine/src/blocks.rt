@@ -1,8 +1,8 @@
 // A block in use is made of the low end of a free block, or of the whole of it.
-use crate::links::back_at;
-use crate::links::link_at;
-use crate::links::put_free;
-use crate::links::put_if;
+use links::back_at;
+use links::link_at;
+use links::put_free;
+use links::put_if;
 use model::FIRST_FREE;
 use words::put_word;
 use words::word;

@@ -1,8 +1,8 @@
 // What is live at an address is given back.
-use crate::find::Live;
-use crate::find::find;
 use crate::items::give;
 use crate::release::release;
+use find::Live;
+use find::find;
 ghost use Rattle.engine.specs.Free.{Freed};
 ghost use Rattle.engine.specs.Ready.{Ready};
 

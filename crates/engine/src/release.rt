@@ -1,7 +1,7 @@
 // A variable block is given back: it becomes free and joins a free neighbour on either side.
-use crate::find::Block;
-use crate::links::link_at;
-use crate::links::put_linked;
+use find::Block;
+use links::link_at;
+use links::put_linked;
 use words::word;
 ghost use mathlib.Core.Path.{_≡_};
 ghost use Prim.Native.Nat.{_+_, _≤_};

@@ -1,7 +1,6 @@
 // The heap's calls. Each checks what it is lent: it does what document 01's rule says, or refuses and leaves every byte.
 use engine::allocate as taking;
 use engine::free as giving;
-use engine::fresh;
 use model::Address;
 use model::LONGEST;
 use model::MAGIC;

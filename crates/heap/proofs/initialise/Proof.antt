@@ -7,7 +7,7 @@ use Rattle.heap.proofs.initialise.Statement.{statement}
 use Rattle.heap.proofs.initialise.Tie as tie
 use Rattle.heap.proofs.initialise.Reads as reads
 use Rattle.heap.proofs.initialise.Lts as lts
-use Rattle.engine.proofs.fresh.lay.Reads as lay-reads
+use Rattle.fresh.proofs.lay.Reads as lay-reads
 use Rattle.heap.proofs.is_lent.Reads as is-lent-reads
 use Rattle.words.proofs.word.Reads as word-reads
 

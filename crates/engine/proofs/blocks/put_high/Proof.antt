@@ -5,8 +5,8 @@ use Rattle.engine.proofs.blocks.put_high.Statement.{statement}
 use Rattle.engine.proofs.blocks.put_high.Tie as tie
 use Rattle.engine.proofs.blocks.put_high.Reads as reads
 use Rattle.engine.proofs.blocks.put_high.Lts as lts
-use Rattle.engine.proofs.links.put_free.Reads as put-free-reads
-use Rattle.engine.proofs.links.put_if.Reads as put-if-reads
+use Rattle.links.proofs.put_free.Reads as put-free-reads
+use Rattle.links.proofs.put_if.Reads as put-if-reads
 use Rattle.words.proofs.put_word.Reads as put-word-reads
 
 add-q : tie.Need-add-q

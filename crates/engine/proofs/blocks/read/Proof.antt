@@ -4,8 +4,8 @@ use Rattle.engine.proofs.blocks.read.Statement.{statement}
 use Rattle.engine.proofs.blocks.read.Tie as tie
 use Rattle.engine.proofs.blocks.read.Reads as reads
 use Rattle.engine.proofs.blocks.read.Lts as lts
-use Rattle.engine.proofs.links.back_at.Reads as back-at-reads
-use Rattle.engine.proofs.links.link_at.Reads as link-at-reads
+use Rattle.links.proofs.back_at.Reads as back-at-reads
+use Rattle.links.proofs.link_at.Reads as link-at-reads
 use Rattle.words.proofs.word.Reads as word-reads
 
 word-requires : tie.Need-word-requires

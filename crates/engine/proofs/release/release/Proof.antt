@@ -5,8 +5,8 @@ use Rattle.engine.proofs.release.release.Statement.{statement}
 use Rattle.engine.proofs.release.release.Tie as tie
 use Rattle.engine.proofs.release.release.Reads as reads
 use Rattle.engine.proofs.release.release.Lts as lts
-use Rattle.engine.proofs.links.link_at.Reads as link-at-reads
-use Rattle.engine.proofs.links.put_linked.Reads as put-linked-reads
+use Rattle.links.proofs.link_at.Reads as link-at-reads
+use Rattle.links.proofs.put_linked.Reads as put-linked-reads
 use Rattle.engine.proofs.release.left_edge.Reads as left-edge-reads
 use Rattle.engine.proofs.release.right_edge.Reads as right-edge-reads
 use Rattle.words.proofs.word.Reads as word-reads
