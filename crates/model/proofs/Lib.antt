@@ -36,5 +36,10 @@ pub mod ItemLives
 pub mod Allocation
 pub mod Room
 pub mod OnLayouts
+pub mod Twins
+pub mod LiveFound
+pub mod FreeLives
+pub mod StayLives
+pub mod Written
 pub mod Figures
 pub mod Vectors

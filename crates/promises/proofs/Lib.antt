@@ -1,0 +1,16 @@
+pub mod Stable
+pub mod Cases
+pub mod Determined
+pub mod Refused
+pub mod Decoded
+pub mod Accepts
+pub mod Opened
+pub mod Answers
+pub mod AllocateKept
+pub mod FreeKept
+pub mod Parts
+pub mod Moved
+pub mod ResizeKept
+pub mod StaysSound
+pub mod NoRoomExact
+pub mod Longer

@@ -1,0 +1,42 @@
+-- No call makes a sound heap unsound.
+use Prim.Native.Nat.{ℕ, _≤_}
+use mathlib.Core.Path.{_≡_, sym, ap, subst}
+use mathlib.Core.List.{List}
+use native.Mathlib.Omega.{arith}
+use native.Mathlib.Decide.{ℕ-discrete, decLe}
+use lib.ListN.{length}
+use Rattle.model.specs.Shape.{wide}
+use Rattle.model.specs.Layout.{Layout}
+use Rattle.model.specs.Sound.{Here, Sound}
+use Rattle.model.specs.Calls.{Outcome, refused, Lent, Checked}
+use Rattle.model.specs.Promises.{Call, initialising, checking, allocating, freeing, resizing, Comes, StaysSound}
+use Rattle.model.proofs.OnLayouts.{doing}
+use Rattle.promises.proofs.Refused.{refused-untouched}
+use Rattle.promises.proofs.Opened.{opens-sound}
+use Rattle.promises.proofs.Answers.{answers}
+use Rattle.promises.proofs.ResizeKept.{resize-result}
+
+-- a call is granted only of a buffer of a good length
+lent-of : (b : List ℕ) (rule : Layout → Outcome) (r : Outcome) → Checked wide b (refused b) rule r → r .refusal ≡ 0 → Lent wide b
+lent-of b rule r c g = go (decLe 344 (length b)) (decLe (length b) 1048576)
+  where
+    go : Dec (344 ≤ length b) → Dec (length b ≤ 1048576) → Lent wide b
+    go (yes x) (yes y) = (x, y)
+    go (no m) y = absurd (omega (arith, g, ap (λ (o : Outcome). o .refusal) (c .one (λ l. m (l .0)))))
+    go (yes x) (no m) = absurd (omega (arith, g, ap (λ (o : Outcome). o .refusal) (c .one (λ l. m (l .1)))))
+
+-- a granted call
+granted-sound : (b : List ℕ) (q : Call) (r : Outcome) → Comes wide b q r → r .refusal ≡ 0 → (L : Layout) → Here wide b L → Sound wide (r .heap)
+unfolding Comes
+granted-sound b initialising r c g L h = opens-sound b r c g
+granted-sound b checking r c g L h = record { layout = L; here = subst (λ (o : Outcome). Here wide (o .heap) L) (sym (c .sound (lent-of b _ r c g) L h)) h }
+granted-sound b (allocating n) r c g L h = record { layout = doing wide (allocating n) L .layout; here = answers b L (lent-of b _ r c g) h (allocating n) tt r c .here }
+granted-sound b (freeing a) r c g L h = record { layout = doing wide (freeing a) L .layout; here = answers b L (lent-of b _ r c g) h (freeing a) tt r c .here }
+granted-sound b (resizing a n) r c g L h = let k = resize-result b a n L r (lent-of b _ r c g) h g c in record { layout = k .layout; here = k .here }
+
+pub stays-sound : StaysSound wide
+stays-sound b q r c s = go (ℕ-discrete (r .refusal) 0)
+  where
+    go : Dec (r .refusal ≡ 0) → Sound wide (r .heap)
+    go (yes g) = granted-sound b q r c g (s .layout) (s .here)
+    go (no g) = subst (λ (o : Outcome). Sound wide (o .heap)) (sym (refused-untouched wide b q r c g)) s
