@@ -1,7 +1,7 @@
-mod ReleaseLaws
+pub mod ReleaseLaws
 mod GiveLaws
 mod FreeLaws
-mod Taking
+pub mod Taking
 mod Placing
 mod ItemTaking
 mod PageLinks

@@ -72,7 +72,7 @@ module _ (b : List ℕ) (L : Layout) (a : ℕ) (t : Spot) (x : found.Block) (h :
   pub stop : ℕ
   stop = x .at .0 + x .size
 
-  blocks-are : L .blocks ≡ t .pre ++ ((used (variable (t .size)) ∷ []) ++ t .post)
+  pub blocks-are : L .blocks ≡ t .pre ++ ((used (variable (t .size)) ∷ []) ++ t .post)
   blocks-are = block-found wide (omega arith) a 312 (L .blocks) t (f .found) .blocks
 
   -- the block itself in the middle
@@ -153,17 +153,17 @@ module _ (b : List ℕ) (L : Layout) (a : ℕ) (t : Spot) (x : found.Block) (h :
           }
 
   -- the right neighbour
-  record RightOf (to behind : ℕ) : Type 0 where
-    rights : List Block
-    post : List Block
-    r : ℕ
-    side : Side rights r
-    post-is : t .post ≡ rights ++ post
-    clear : Apart 1 post
-    extent : x .at .0 + x .size + r ≡ to
-    behind-is : firstFree wide to post 0 ≡ behind
+  pub record RightOf (to behind : ℕ) : Type 0 where
+    pub rights : List Block
+    pub post : List Block
+    pub r : ℕ
+    pub side : Side rights r
+    pub post-is : t .post ≡ rights ++ post
+    pub clear : Apart 1 post
+    pub extent : x .at .0 + x .size + r ≡ to
+    pub behind-is : firstFree wide to post 0 ≡ behind
 
-  right-of : (next : ℕ) → next ≡ firstFree wide (x .at .0 + x .size) (t .post) 0 → (to behind : ℕ) → to ≡ rightAt b (x .at .0 + x .size) next → behind ≡ rightFree b (x .at .0 + x .size) next → RightOf to behind
+  pub right-of : (next : ℕ) → next ≡ firstFree wide (x .at .0 + x .size) (t .post) 0 → (to behind : ℕ) → to ≡ rightAt b (x .at .0 + x .size) next → behind ≡ rightFree b (x .at .0 + x .size) next → RightOf to behind
   right-of next en to behind et eb = go (ℕ-discrete next (x .at .0 + x .size))
     where
       q : ℕ
@@ -302,7 +302,7 @@ module _ (b : List ℕ) (L : Layout) (t : Spot) (from to before behind : ℕ) (h
 
 -- what code reads and writes, in its own numbers
 module _ (b : List ℕ) (x : found.Block) (k : BlockLive b x) where
-  live : Middle wide b (endOf (length b)) (k .layout .lists) (k .spot .pre) (used (variable (k .spot .size)) ∷ []) (k .spot .post) (x .at .0) (x .at .0 + x .size) (x .prev .0) (firstFree wide (x .at .0 + x .size) (k .spot .post) 0)
+  pub live : Middle wide b (endOf (length b)) (k .layout .lists) (k .spot .pre) (used (variable (k .spot .size)) ∷ []) (k .spot .post) (x .at .0) (x .at .0 + x .size) (x .prev .0) (firstFree wide (x .at .0 + x .size) (k .spot .post) 0)
   live = self b (k .layout) (k .address) (k .spot) x (k .here) (k .found)
 
   pub record Around : Type 0 where

@@ -2,3 +2,6 @@ mod Opening
 mod Examining
 mod Allocating
 mod Freeing
+mod Resizing
+mod Answering
+pub mod Together

@@ -7,6 +7,8 @@ use Rattle.model.specs.Refusals.{badLength, notOpened, notSound, badSize, notLi
 use Rattle.model.specs.Calls.{Outcome, refused, granted, Lent, Opened}
 use Rattle.engine.specs.declared.allocate.Taken.{Taken}
 use Rattle.engine.specs.declared.allocate.Taken.the-variants as taken
+use Rattle.resizing.specs.declared.resize.Resized.{Resized}
+use Rattle.resizing.specs.declared.resize.Resized.the-variants as resized
 use Rattle.heap.specs.declared.Refusal.{Refusal}
 use Rattle.heap.specs.declared.Refusal.the-variants.{BadLength, NotOpened, NotSound, BadSize, NotLive, NoRoom, AlreadyOpened}
 use Rattle.heap.specs.declared.Answer.{Answer}
@@ -47,3 +49,9 @@ Examined b (Unfit k) = UnfitFor b k
 abbrev pub answerOf : Taken → Answer
 answerOf (taken.At a) = Granted a
 answerOf taken.NoRoom = Refused NoRoom
+
+-- what a resize came to, as an answer
+abbrev pub resizedAs : Resized → Answer
+resizedAs (resized.To a) = Granted a
+resizedAs resized.NotLive = Refused NotLive
+resizedAs resized.NoRoom = Refused NoRoom

@@ -1,18 +1,29 @@
 // The heap's calls. Each checks what it is lent: it does what document 01's rule says, or refuses and leaves every byte.
+pub mod counting;
+pub mod lookup;
+pub mod walking;
+
+pub use crate::counting::class_table;
+pub use crate::counting::statistics;
+pub use crate::lookup::look_up;
+pub use crate::lookup::look_up_mut;
+pub use crate::lookup::look_up_refusal;
+pub use crate::walking::Walk;
 use engine::allocate as taking;
 use engine::free as giving;
 use model::Address;
 use model::LONGEST;
 use model::MAGIC;
 use model::SHORTEST;
+use resizing::resize as sizing;
 use sound::is_sound;
 use words::word;
 ghost use mathlib.Core.Path.{_≡_};
 ghost use Prim.Native.Nat.{_≤_};
 ghost use Rattle.model.specs.Shape.{wide};
-ghost use Rattle.model.specs.Calls.{Lent, Initialises, Checks, Allocates, Frees};
+ghost use Rattle.model.specs.Calls.{Lent, Initialises, Checks, Allocates, Frees, Resizes};
 ghost use Rattle.sound.specs.Tells.{Tells};
-ghost use Rattle.heap.specs.Answers.{Examined, answerOf, outcome, refusalNumber};
+ghost use Rattle.heap.specs.Answers.{Examined, answerOf, resizedAs, outcome, refusalNumber};
 
 // Why a call says no, in the order of document 01's numbers, 1 to 7.
 pub enum Refusal {
@@ -77,7 +88,7 @@ pub fn initialise(h: &mut [u8]) -> Answer
 }
 
 // The length, the first 8 bytes, and soundness, in that order.
-fn examine(h: &[u8]) -> Verdict
+pub fn examine(h: &[u8]) -> Verdict
     ensures { λ r. ⌜ Examined (now (h .entry)) r ⌝ }
 {
     if !is_lent(h) {
@@ -146,4 +157,33 @@ pub fn free(h: &mut [u8], a: Address) -> Answer
             Answer::Refused(Refusal::NotLive)
         }
     }
+}
+
+// What a resize came to, as an answer.
+fn resized_or_not(t: sizing::Resized) -> Answer
+    ensures { λ r. ⌜ r ≡ resizedAs t ⌝ }
+{
+    match t {
+        sizing::Resized::To(a) => Answer::Granted(a),
+        sizing::Resized::NotLive => Answer::Refused(Refusal::NotLive),
+        sizing::Resized::NoRoom => Answer::Refused(Refusal::NoRoom),
+    }
+}
+
+// Makes the record at a one of n bytes, there or elsewhere.
+pub fn resize(h: &mut [u8], a: Address, n: usize) -> Answer
+    ensures { λ r. ⌜ Resizes wide (now (h .entry)) (a .0) n (outcome r (now (h .exit))) ⌝ }
+{
+    let v = examine(h);
+    if let Verdict::Unfit(k) = v {
+        return Answer::Refused(k);
+    }
+    if n == 0 {
+        return Answer::Refused(Refusal::BadSize);
+    }
+    if LONGEST < n {
+        return Answer::Refused(Refusal::BadSize);
+    }
+    let t = sizing::resize(h, a.0, n);
+    resized_or_not(t)
 }

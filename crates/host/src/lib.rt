@@ -5,7 +5,7 @@ use model::Address;
 ghost use mathlib.Core.Path.{_≡_};
 ghost use mathlib.Core.List.{[]};
 ghost use Rattle.model.specs.Shape.{wide};
-ghost use Rattle.model.specs.Calls.{Initialises, Checks, Allocates, Frees};
+ghost use Rattle.model.specs.Calls.{Initialises, Checks, Allocates, Frees, Resizes};
 ghost use Rattle.heap.specs.Answers.{outcome};
 ghost use Rattle.host.specs.Numbers.{Numbered};
 
@@ -45,4 +45,11 @@ pub extern "C" fn heap_free(h: &mut [u8], address: u64) -> u64
     ensures { λ r. ⌜ Numbered (Frees wide (now (h .entry)) address) r (now (h .exit)) ⌝ }
 {
     number(heap::free(h, Address(address as usize)))
+}
+
+#[no_mangle]
+pub extern "C" fn heap_resize(h: &mut [u8], address: u64, size: u64) -> u64
+    ensures { λ r. ⌜ Numbered (Resizes wide (now (h .entry)) address size) r (now (h .exit)) ⌝ }
+{
+    number(heap::resize(h, Address(address as usize), size as usize))
 }

@@ -31,11 +31,11 @@ pub even-wide : Even wide
 even-wide = record { word = omega arith; tags = omega arith; pages = λ c. omega arith }
 
 -- a size above a multiple of 8 is rounded up to the next at least
-up-above : (k n : ℕ) → 8 * k < n → 8 * k + 8 ≤ up8 n
+pub up-above : (k n : ℕ) → 8 * k < n → 8 * k + 8 ≤ up8 n
 up-above k n l = omega arith
 
 -- what is rounded up and holds two tags is a multiple of 8
-need-eight : (n t : ℕ) → t % 8 ≡ 0 → (up8 n + t) % 8 ≡ 0
+pub need-eight : (n t : ℕ) → t % 8 ≡ 0 → (up8 n + t) % 8 ≡ 0
 need-eight n t e = omega arith
 
 module _ (S : Shape) (end n : ℕ) where

@@ -34,7 +34,14 @@ pub mod Paged
 pub mod Lives
 pub mod ItemLives
 pub mod Allocation
+pub mod Resizing
+pub mod Moving
 pub mod Room
+pub mod Totals
+pub mod Passing
+pub mod Steps
+pub mod Holding
+pub mod Columns
 pub mod OnLayouts
 pub mod Twins
 pub mod LiveFound

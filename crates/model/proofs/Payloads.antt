@@ -18,11 +18,11 @@ use Rattle.model.proofs.Blocks.{le-ends, rise-slots, rise-own, rise-blo
 use Rattle.model.proofs.Replace.{rise-low, rise-high}
 
 -- where a payload lies: from lo on and below hi
-abbrev Within : ℕ → ℕ → Payload → Type 0
+abbrev pub Within : ℕ → ℕ → Payload → Type 0
 Within lo hi x = (lo ≤ x .address) × (x .address + x .size ≤ hi)
 
 module _ (S : Shape) where
-  slots-within : (c p : ℕ) (ss : List Slot) (x : Payload) → x ∈ slotsLive S c p ss → Within (p + S .word) (p + length ss * item S c) x
+  pub slots-within : (c p : ℕ) (ss : List Slot) (x : Payload) → x ∈ slotsLive S c p ss → Within (p + S .word) (p + length ss * item S c) x
   unfolding slotsLive _∈_
   slots-within c p [] x h = absurd h
   slots-within c p (idle ∷ ss) x h = let r = slots-within c (p + item S c) ss x h in (omega (arith, r .0), omega (arith, r .1))

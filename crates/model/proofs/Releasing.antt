@@ -14,7 +14,7 @@ use Rattle.model.proofs.Valid.{endsFree, apart-append, apart-left, apar
 use Rattle.model.proofs.Remade.{joined-valid}
 
 -- blocks that touch no free block stay as they are with a block in front
-before-apart : (b : Block) (bs : List Block) → Apart (ifFree b 1 0) bs → before b bs ≡ b ∷ bs
+pub before-apart : (b : Block) (bs : List Block) → Apart (ifFree b 1 0) bs → before b bs ≡ b ∷ bs
 unfolding before Apart
 before-apart (free s) [] h = refl
 before-apart (free s) (free t ∷ bs) h = absurd (omega (arith, h .0))

@@ -58,7 +58,7 @@ tag-shown b ls p prev next (used (variable s)) h = h .0
 tag-shown b ls p prev next (used (page c k ss)) h = h .0
 
 module _ {b : List ℕ} {L : Layout} (h : Here wide b L) {p prev left : ℕ} (s : Standing L p prev left) where
-  met : (x : Block) (after : List Block) → s .rest ≡ x ∷ after → Met b L p prev x after
+  pub met : (x : Block) (after : List Block) → s .rest ≡ x ∷ after → Met b L p prev x after
   unfolding blockWords ends AllAllowed
   met x after e =
       let blocks : L .blocks ≡ s .pre ++ (x ∷ after) = s .blocks ∙ ap (λ (l : List Block). s .pre ++ l) e in

@@ -74,6 +74,35 @@ module _ (S : Shape) where
       go (yes k) = rw (le-leb (need + least S) s k) e
       go (no k) = rw (lt-leb (need + least S) s (omega arith)) f
 
+  module _ {b : List ℕ} {end : ℕ} {ls : List (List ℕ)} {pre old post : List Block} {p q prev next : ℕ} (m : Middle S b end ls pre old post p q prev next) (s : ℕ) (extent : p + s ≡ q) where
+    taken-split : (U : Use) → useSize S U < s → 0 < S .word → Bytes b → 16 * end + 4 * S .classes + 64 * S .word + 64 < 256 ^ S .word
+        → Valid S end (three S ls pre (used U ∷ free (s - useSize S U) ∷ []) post)
+        → putIf S (draw (S .word) (record { at = linkOf S prev; is = p + useSize S U } ∷ (useWords S ls p U ++ own S [] (p + useSize S U) prev next (free (s - useSize S U)))) b) (backOf S b next) (p + useSize S U)
+        ≡ draw (S .word) (words S end (three S ls pre (used U ∷ free (s - useSize S U) ∷ []) post)) b
+    unfolding blockWords own firstFree lastFree sizeOf ends
+    taken-split U l w0 bytes room v = rewritten S m (used U ∷ free (s - useSize S U) ∷ []) (omega (arith, extent)) w0 bytes room v
+
+    taken-whole : (U : Use) → useSize S U ≡ s → 0 < S .word → Bytes b → 16 * end + 4 * S .classes + 64 * S .word + 64 < 256 ^ S .word
+        → Valid S end (three S ls pre (used U ∷ []) post)
+        → putIf S (draw (S .word) (record { at = linkOf S prev; is = next } ∷ (useWords S ls p U ++ [])) b) (backOf S b next) prev
+        ≡ draw (S .word) (words S end (three S ls pre (used U ∷ []) post)) b
+    unfolding blockWords own firstFree lastFree sizeOf ends
+    taken-whole U l w0 bytes room v = rewritten S m (used U ∷ []) (omega (arith, extent)) w0 bytes room v
+
+    -- THE LAW: in place of blocks of the extent s, the link, a block in use, a free rest and the link back written draw the layout with them
+    pub took-of : (u : ℕ) (U : Use) → useSize S U ≡ u → u ≤ s → 0 < S .word → Bytes b → 16 * end + 4 * S .classes + 64 * S .word + 64 < 256 ^ S .word → Valid S end (three S ls pre (parts u s U) post)
+        → putIf S (draw (S .word) (record { at = linkOf S prev; is = restAt u s p next } ∷ (useWords S ls p U ++ restWords u s p prev next)) b) (backOf S b next) (restAt u s p prev)
+        ≡ draw (S .word) (words S end (three S ls pre (parts u s U) post)) b
+    took-of u U e l w0 bytes room v = go (decLt u s)
+      where
+        go : Dec (u < s)
+            → putIf S (draw (S .word) (record { at = linkOf S prev; is = restAt u s p next } ∷ (useWords S ls p U ++ restWords u s p prev next)) b) (backOf S b next) (restAt u s p prev)
+            ≡ draw (S .word) (words S end (three S ls pre (parts u s U) post)) b
+        go (yes k) =
+            let w : Valid S end (three S ls pre (used U ∷ free (s - useSize S U) ∷ []) post) = rw e (rw (lt-ltb u s k) at v) in
+            rw (lt-ltb u s k, ← e) (taken-split U (omega arith) w0 bytes room w)
+        go (no k) = rw (le-ltb u s (omega arith)) (taken-whole U (omega arith) w0 bytes room (rw (le-ltb u s (omega arith)) at v))
+
   module _ {b : List ℕ} {end : ℕ} {ls : List (List ℕ)} {pre post : List Block} {s p q prev next : ℕ} (m : Middle S b end ls pre (free s ∷ []) post p q prev next) where
     -- what stands in the free block
     pub size-there : wordAt (S .word) b p ≡ s
@@ -103,33 +132,11 @@ module _ (S : Shape) where
     pub block-in : p + s ≤ end
     block-in = omega (arith, ends-there, end-le S m)
 
-    taken-split : (U : Use) → useSize S U < s → 0 < S .word → Bytes b → 16 * end + 4 * S .classes + 64 * S .word + 64 < 256 ^ S .word
-        → Valid S end (three S ls pre (used U ∷ free (s - useSize S U) ∷ []) post)
-        → putIf S (draw (S .word) (record { at = linkOf S prev; is = p + useSize S U } ∷ (useWords S ls p U ++ own S [] (p + useSize S U) prev next (free (s - useSize S U)))) b) (backOf S b next) (p + useSize S U)
-        ≡ draw (S .word) (words S end (three S ls pre (used U ∷ free (s - useSize S U) ∷ []) post)) b
-    unfolding blockWords own firstFree lastFree sizeOf ends
-    taken-split U l w0 bytes room v = rewritten S m (used U ∷ free (s - useSize S U) ∷ []) (omega (arith, ends-there)) w0 bytes room v
-
-    taken-whole : (U : Use) → useSize S U ≡ s → 0 < S .word → Bytes b → 16 * end + 4 * S .classes + 64 * S .word + 64 < 256 ^ S .word
-        → Valid S end (three S ls pre (used U ∷ []) post)
-        → putIf S (draw (S .word) (record { at = linkOf S prev; is = next } ∷ (useWords S ls p U ++ [])) b) (backOf S b next) prev
-        ≡ draw (S .word) (words S end (three S ls pre (used U ∷ []) post)) b
-    unfolding blockWords own firstFree lastFree sizeOf ends
-    taken-whole U l w0 bytes room v = rewritten S m (used U ∷ []) (omega (arith, ends-there)) w0 bytes room v
-
-    -- THE LAW: the link, the block in use, the free rest and the link back written draw the layout with them
+    -- the same of one free block
     pub took : (u : ℕ) (U : Use) → useSize S U ≡ u → u ≤ s → 0 < S .word → Bytes b → 16 * end + 4 * S .classes + 64 * S .word + 64 < 256 ^ S .word → Valid S end (three S ls pre (parts u s U) post)
         → putIf S (draw (S .word) (record { at = linkOf S prev; is = restAt u s p next } ∷ (useWords S ls p U ++ restWords u s p prev next)) b) (backOf S b next) (restAt u s p prev)
         ≡ draw (S .word) (words S end (three S ls pre (parts u s U) post)) b
-    took u U e l w0 bytes room v = go (decLt u s)
-      where
-        go : Dec (u < s)
-            → putIf S (draw (S .word) (record { at = linkOf S prev; is = restAt u s p next } ∷ (useWords S ls p U ++ restWords u s p prev next)) b) (backOf S b next) (restAt u s p prev)
-            ≡ draw (S .word) (words S end (three S ls pre (parts u s U) post)) b
-        go (yes k) =
-            let w : Valid S end (three S ls pre (used U ∷ free (s - useSize S U) ∷ []) post) = rw e (rw (lt-ltb u s k) at v) in
-            rw (lt-ltb u s k, ← e) (taken-split U (omega arith) w0 bytes room w)
-        go (no k) = rw (le-ltb u s (omega arith)) (taken-whole U (omega arith) w0 bytes room (rw (le-ltb u s (omega arith)) at v))
+    took u U e l w0 bytes room v = took-of m s ends-there u U e l w0 bytes room v
 
   module _ (end : ℕ) (ls : List (List ℕ)) (pre post : List Block) (s u : ℕ) (U : Use) where
     -- the new layout is valid where the block in use has no free item

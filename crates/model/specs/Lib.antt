@@ -5,6 +5,7 @@ pub mod Sound
 pub mod Rules
 pub mod Live
 pub mod Reading
+pub mod Walking
 pub mod Refusals
 pub mod Calls
 pub mod Promises

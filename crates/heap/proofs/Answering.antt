@@ -1,0 +1,83 @@
+-- The reading calls: what each way through them shows of their contracts.
+use Prim.Native.Nat.{ℕ, _+_, _-_}
+use mathlib.Core.Path.{_≡_, refl, sym, ap, _∙_}
+use mathlib.Core.List.{List, []}
+use native.Mathlib.Nat.{add-sub-cancel-left}
+use lib.ListN.{take, drop}
+use Rattle.model.specs.Shape.{wide}
+use Rattle.model.specs.Layout.{Layout}
+use Rattle.model.specs.Sound.{Here}
+use Rattle.model.specs.Rules.{Found, block, thing, nothing, find, capacity}
+use Rattle.model.specs.Reading as reading
+use Rattle.model.specs.Reading.{ended}
+use Rattle.model.specs.Refusals.{notLive}
+use Rattle.model.specs.Calls.{Told, Checked, found}
+use Rattle.reading.specs.Stepping.{toldKind, toldBlock}
+use Rattle.reading.specs.Holding.{Holds}
+use Rattle.reading.specs.declared.stepping.Block.{Block}
+use Rattle.heap.specs.declared.Refusal.{Refusal}
+use Rattle.heap.specs.declared.Verdict.{Verdict}
+use Rattle.heap.specs.declared.Verdict.the-variants.{Fine, Unfit}
+use Rattle.heap.specs.declared.lookup.Held.{Held}
+use Rattle.heap.specs.Answers.{refusalNumber, Examined}
+use Rattle.heap.specs.Lookup.{PartTold, HeldTold}
+use Rattle.heap.proofs.Examining.{refuses, decides}
+
+-- what a contract says of an answer holds of whatever is worked out from it
+pub checked-map : {A B : Type 0} (f : A → B) {b : List ℕ} {no-with : ℕ → A} {rule : Layout → A} {r : A} → Checked wide b no-with rule r → Checked wide b (λ k. f (no-with k)) (λ L. f (rule L)) (f r)
+checked-map f c = record { one = λ n. ap f (c .one n); two = λ l n. ap f (c .two l n); three = λ l o n. ap f (c .three l o n); sound = λ l L h. ap f (c .sound l L h) }
+
+abbrev pub with : {A : Type 0} → ℕ → A → Told A
+with k x = record { refusal = k; answer = x }
+
+module _ {A : Type 0} (b : List ℕ) (none : A) (rule : Layout → A) (v : Verdict) (x : Examined b v) where
+  pub tells-refusal : (k : Refusal) → v ≡ Unfit k → (n : ℕ) → n ≡ refusalNumber k → (r : A) → r ≡ none → Checked wide b (λ j. with j none) (λ L. with 0 (rule L)) (with n r)
+  tells-refusal k e n en r er = rw (en, er) (refuses b (λ j. with j none) (λ L. with 0 (rule L)) v k x e)
+
+  pub tells-answer : v ≡ Fine → (r : A) → ((L : Layout) → Here wide b L → r ≡ rule L) → Checked wide b (λ j. with j none) (λ L. with 0 (rule L)) (with 0 r)
+  tells-answer e r d = decides b (λ j. with j none) (λ L. with 0 (rule L)) v x e (with 0 r) (λ L h. ap (λ (y : A). with 0 y) (d L h))
+
+-- a walk that meets no block stays
+pub stays-there : (w : ℕ) (r : Block) → toldBlock w r ≡ ended wide w → record { position = r .position .0; size = r .size; kind = toldKind (r .kind); next = w } ≡ ended wide w
+stays-there w r e = ap (λ (s : reading.Step). record { position = s .position; size = s .size; kind = s .kind; next = w }) e
+
+-- what is live at an address
+module _ (b : List ℕ) (a : ℕ) (v : Verdict) (x : Examined b v) where
+  pub held-refused : (k : Refusal) → v ≡ Unfit k → (n : ℕ) → n ≡ refusalNumber k → HeldTold b a (record { size = 0; refusal = n })
+  held-refused k e n en =
+      record {
+        size = refuses b (λ j. 0) (λ L. capacity wide (find wide a L)) v k x e;
+        refusal = rw en (refuses b (λ j. j) (λ L. found wide (find wide a L) notLive 0) v k x e);
+        within = λ z. absurd (z refl);
+      }
+
+  module _ (e : v ≡ Fine) (n : ℕ) (h : Holds b a n) where
+    pub held-none : n ≡ 0 → HeldTold b a (record { size = 0; refusal = notLive })
+    held-none z =
+        record {
+          size = decides b (λ j. 0) (λ L. capacity wide (find wide a L)) v x e 0 (λ L k. sym z ∙ h .answer L k);
+          refusal = decides b (λ j. j) (λ L. found wide (find wide a L) notLive 0) v x e notLive (λ L k. ap (λ (f : Found). found wide f notLive 0) (sym (h .none z L k)));
+          within = λ y. absurd (y refl);
+        }
+
+    pub held-some : (n ≡ 0 → ⊥) → HeldTold b a (record { size = n; refusal = 0 })
+    held-some z =
+        record {
+          size = decides b (λ j. 0) (λ L. capacity wide (find wide a L)) v x e n (λ L k. h .answer L k);
+          refusal = decides b (λ j. j) (λ L. found wide (find wide a L) notLive 0) v x e 0 (λ L k. granted (find wide a L) (h .answer L k));
+          within = λ y. h .within z;
+        }
+      where
+        granted : (f : Found) → n ≡ capacity wide f → _≡_ {A = ℕ} 0 (found wide f notLive 0)
+        granted nothing k = absurd (z k)
+        granted (block t) k = refl
+        granted (thing o c) k = refl
+
+module _ {b : List ℕ} {a : ℕ} (r : Held) (t : HeldTold b a r) where
+  pub part-none : r .size ≡ 0 → PartTold b a []
+  part-none e =
+      let c : Checked wide b (λ k. take 0 (drop a b)) (λ L. take (capacity wide (find wide a L)) (drop a b)) (take (r .size) (drop a b)) = checked-map (λ (n : ℕ). take n (drop a b)) (t .size) in
+      rw e at c
+
+  pub part-some : PartTold b a (take (a + r .size - a) (drop a b))
+  part-some = rw add-sub-cancel-left (checked-map (λ (n : ℕ). take n (drop a b)) (t .size))

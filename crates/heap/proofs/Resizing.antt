@@ -1,0 +1,27 @@
+-- Resize: what the engine's answer shows of the contract.
+use Prim.Native.Nat.{ℕ, _≤_}
+use mathlib.Core.Path.{_≡_, refl, sym, ap, _∙_}
+use mathlib.Core.List.{List}
+use Rattle.model.specs.Shape.{wide}
+use Rattle.model.specs.Layout.{Layout}
+use Rattle.model.specs.Sound.{Here}
+use Rattle.model.specs.Rules.{find, stays}
+use Rattle.model.specs.Refusals.{notLive}
+use Rattle.model.specs.Calls.{refused, sized, found, moved, resized}
+use Rattle.resizing.specs.declared.resize.Resized.{Resized}
+use Rattle.resizing.specs.declared.resize.Resized.the-variants as to
+use Rattle.resizing.specs.Move.{outcomeOf, Resizes}
+use Rattle.heap.specs.declared.Answer.{Answer}
+use Rattle.heap.specs.Answers.{resizedAs, outcome}
+use Rattle.heap.proofs.Allocating.{good-size}
+
+as-told : (t : Resized) (c : List ℕ) → outcome (resizedAs t) c ≡ outcomeOf t c
+as-told (to.To a) c = refl
+as-told to.NotLive c = refl
+as-told to.NoRoom c = refl
+
+pub resizes : (b : List ℕ) (a n : ℕ) (t : Resized) (r : Answer) (c : List ℕ) → 1 ≤ n → n ≤ 1048576 → Resizes b a n t c → r ≡ resizedAs t → (L : Layout) → Here wide b L
+    → outcome r c ≡ sized wide n b (found wide (find wide a L) (refused b notLive) (resized wide b a (moved wide b a n L) (stays wide n (find wide a L) L)))
+resizes b a n t r c l m g e L h =
+    ap (λ (x : Answer). outcome x c) e ∙ as-told t c ∙ g .is L h
+    ∙ sym (good-size n b (found wide (find wide a L) (refused b notLive) (resized wide b a (moved wide b a n L) (stays wide n (find wide a L) L))) l m)

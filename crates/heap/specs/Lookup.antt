@@ -1,0 +1,31 @@
+-- What the answers of look-up mean: which part of the lent heap it is, and the refusal number.
+use Prim.Native.Nat.{ℕ, _+_, _≤_, _<_}
+use mathlib.Core.Path.{_≡_}
+use mathlib.Core.List.{List, []}
+use lib.ListN.{length}
+use denote.Ref.{RefT, now, ptr}
+use Rattle.model.specs.Shape.{wide}
+use Rattle.model.specs.Rules.{find, capacity}
+use Rattle.model.specs.Reading.{lookedUp}
+use Rattle.model.specs.Refusals.{notLive}
+use Rattle.model.specs.Calls.{Checked, found}
+use Rattle.heap.specs.declared.lookup.Held.{Held}
+
+-- the bytes of the part, and the refusal number: each is what document 01 says of the heap's layout
+abbrev pub PartTold : List ℕ → ℕ → List ℕ → Type 0
+PartTold b a r = Checked wide b (λ k. []) (λ L. lookedUp wide b a L) r
+
+abbrev pub RefusalTold : List ℕ → ℕ → ℕ → Type 0
+RefusalTold b a r = Checked wide b (λ k. k) (λ L. found wide (find wide a L) notLive 0) r
+
+-- r is the payload at a: its bytes; and it is a part of h, and where it is not empty, it begins a bytes after the start of h and nowhere else
+pub record Part (h : RefT (List ℕ)) (a : ℕ) (r : RefT (List ℕ)) : Type 0 where
+  pub bytes : PartTold (now h) a (now r)
+  pub same : ptr r .0 ≡ ptr h .0
+  pub place : 0 < length (now r) → ptr r .1 ≡ a + ptr h .1
+
+-- how many bytes are live at a, and the refusal
+pub record HeldTold (b : List ℕ) (a : ℕ) (r : Held) : Type 0 where
+  pub size : Checked wide b (λ k. 0) (λ L. capacity wide (find wide a L)) (r .size)
+  pub refusal : RefusalTold b a (r .refusal)
+  pub within : (r .size ≡ 0 → ⊥) → a + r .size ≤ length b

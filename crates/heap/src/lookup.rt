@@ -1,0 +1,75 @@
+// The payload at a live address, as that very part of the lent heap.
+use crate::Verdict;
+use crate::examine;
+use crate::refusal_number;
+use model::Address;
+use reading::holding::capacity;
+ghost use Rattle.heap.specs.Lookup.{HeldTold, Part, PartTold, RefusalTold};
+
+// How many bytes are live at an address, 0 where refused; and the refusal number.
+pub struct Held {
+    pub size: usize,
+    pub refusal: u64,
+}
+
+fn held_at(h: &[u8], a: usize) -> Held
+    ensures { λ r. ⌜ HeldTold (now (h .entry)) a r ⌝ }
+{
+    let v = examine(h);
+    match v {
+        Verdict::Unfit(k) => {
+            let n = refusal_number(k);
+            Held {
+                size: 0,
+                refusal: n,
+            }
+        }
+        Verdict::Fine => {
+            let n = capacity(h, a);
+            if n == 0 {
+                return Held {
+                    size: 0,
+                    refusal: 5,
+                };
+            }
+            Held {
+                size: n,
+                refusal: 0,
+            }
+        }
+    }
+}
+
+// The whole capacity at a; empty where refused.
+pub fn look_up(h: &[u8], a: Address) -> &[u8]
+    ensures { λ r. ⌜ Part (h .entry) (a .0) r ⌝ }
+{
+    let at = a.0;
+    let x = held_at(h, at);
+    let n = x.size;
+    if n == 0 {
+        return &h[0..0];
+    }
+    &h[at..at + n]
+}
+
+// The same part, lent for writing.
+pub fn look_up_mut(h: &mut [u8], a: Address) -> &mut [u8]
+    ensures { λ r. ⌜ Part (h .entry) (a .0) r ⌝ }
+{
+    let at = a.0;
+    let x = held_at(&*h, at);
+    let n = x.size;
+    if n == 0 {
+        return &mut h[0..0];
+    }
+    &mut h[at..at + n]
+}
+
+// The refusal number of both.
+pub fn look_up_refusal(h: &[u8], a: Address) -> u64
+    ensures { λ r. ⌜ RefusalTold (now (h .entry)) (a .0) r ⌝ }
+{
+    let x = held_at(h, a.0);
+    x.refusal
+}

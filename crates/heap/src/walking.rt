@@ -1,0 +1,65 @@
+// A walk over the blocks, by value: each step hands the next walk back with its answer.
+use crate::Verdict;
+use crate::examine;
+use crate::refusal_number;
+use model::Position;
+use model::START;
+use reading::stepping::Block;
+use reading::stepping::meet;
+use reading::stepping::no_block;
+ghost use mathlib.Core.Path.{_≡_};
+ghost use Rattle.model.specs.Shape.{wide};
+ghost use Rattle.model.specs.Calls.{Steps};
+ghost use Rattle.heap.specs.Walking.{toldStep};
+
+// Where a walk stands.
+pub struct Walk {
+    pub at: Position,
+}
+
+// A step's answer, the walk behind it, and the refusal number.
+pub struct Step {
+    pub block: Block,
+    pub walk: Walk,
+    pub refusal: u64,
+}
+
+impl Walk {
+    // A walk at the data area's start.
+    pub fn start() -> Walk
+        ensures { λ r. ⌜ r .at .0 ≡ 312 ⌝ }
+    {
+        Walk {
+            at: Position(START),
+        }
+    }
+
+    // The block at which the walk stands, and the walk behind it; where none begins, or where refused, the end, and the walk stays.
+    pub fn step(self, h: &[u8]) -> Step
+        ensures { λ r. ⌜ Steps wide (now (h .entry)) (self .at .0) (toldStep r) ⌝ }
+    {
+        let here = self.at;
+        let at = here.0;
+        let v = examine(h);
+        match v {
+            Verdict::Unfit(k) => {
+                let n = refusal_number(k);
+                let b = no_block();
+                Step {
+                    block: b,
+                    walk: Walk { at: Position(at) },
+                    refusal: n,
+                }
+            }
+            Verdict::Fine => {
+                let b = meet(h, at);
+                let next = at + b.size;
+                Step {
+                    block: b,
+                    walk: Walk { at: Position(next) },
+                    refusal: 0,
+                }
+            }
+        }
+    }
+}

@@ -1,0 +1,5 @@
+mod ReadingLaws
+mod CountLaws
+mod TableLaws
+mod SteppingLaws
+mod HoldingLaws

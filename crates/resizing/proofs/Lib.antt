@@ -1,0 +1,3 @@
+mod ReshapeLaws
+mod MoveLaws
+mod ResizeLaws

@@ -1,0 +1,118 @@
+-- A record moves: room is allocated, its bytes are copied there, and the old place is given back.
+use Prim.Native.Nat.{ℕ, _+_, _-_, _*_, _≤_, _<_, min}
+use mathlib.Core.Path.{_≡_, refl, sym, ap, subst, _∙_}
+use mathlib.Core.Bool.{Bool, true, false}
+use mathlib.Core.List.{List, _∷_}
+use mathlib.Core.Logic.{_⊎_, inl, inr, ⊎-elim}
+use mathlib.Core.Option.{Option, none, some}
+use native.Mathlib.Omega.{arith}
+use lib.ListN.{length}
+use Rattle.words.specs.Copy.{copied, Room}
+use Rattle.words.proofs.WordLaws.{Bytes}
+use Rattle.model.specs.declared.Address.{Address}
+use Rattle.model.specs.Shape.{wide, endOf, classOf, holds, offsetOf, itemAt, addressOf}
+use Rattle.model.specs.Layout.{Layout}
+use Rattle.model.specs.Sound.{Here, Sound}
+use Rattle.model.specs.Rules.{Spot, Made, Found, block, thing, nothing, find, allocate, capacity, stays, freed}
+use Rattle.model.specs.Refusals.{notLive, noRoom}
+use Rattle.model.specs.Calls.{Outcome, refused, granted, found, drawn, without, moved, resized}
+use Rattle.model.specs.Live.{_∈_, Payload, live}
+use Rattle.model.proofs.Pictures.{length-draw}
+use Rattle.model.proofs.Finding.{item-found}
+use Rattle.model.proofs.Payloads.{in-area}
+use Rattle.model.proofs.Allocation.{Granted, even-wide, allocate-grants}
+use Rattle.model.proofs.Moving.{payloadOf, found-live, live-apart, copied-here, item-again}
+use Rattle.model.proofs.Resizing.{item-stays, item-moves, small-moves}
+use Rattle.find.specs.declared.Block as seen
+use Rattle.engine.specs.declared.allocate.Taken.{Taken}
+use Rattle.engine.specs.declared.allocate.Taken.the-variants.{At, NoRoom}
+use Rattle.resizing.specs.declared.resize.Resized.{Resized}
+use Rattle.resizing.specs.declared.resize.Resized.the-variants as to
+use Rattle.engine.specs.Ready.{Ready}
+use Rattle.engine.specs.Allocate.{Asked, takenOf, bytesOf, layoutOf, Gives, Allocates}
+use Rattle.engine.specs.Items.{ItemLive, GaveItem}
+use Rattle.engine.specs.Free.{freedBytes, Freed}
+use Rattle.resizing.specs.Move.{Holding, carriedBytes, CarriedIn, Carried, ItemAt, BlockAt, outcomeOf, Moves, Resizes}
+use Rattle.resizing.proofs.ReshapeLaws.{drawn-same}
+
+-- what an answer says of the rule
+not-both : (x : Address) → NoRoom ≡ At x → ⊥
+not-both x e = let z : _≡_ {A = ℕ} 0 1 = cc in omega arith
+
+pub taken-none : (o : Option Made) → NoRoom ≡ takenOf o → o ≡ none
+taken-none none e = refl
+taken-none (some m) e = absurd (not-both (record { 0 = m .at }) e)
+
+pub taken-some : (o : Option Made) (x : Address) → At x ≡ takenOf o → (m : Made) × (o ≡ some m) × (x .0 ≡ m .at)
+taken-some none x e = absurd (not-both x (sym e))
+taken-some (some m) x e = (m, refl, ap address e)
+  where
+    address : Taken → ℕ
+    address (At y) = y .0
+    address NoRoom = 0
+
+-- the old place and the new, in a layout of the bytes
+module _ (b : List ℕ) (a k n : ℕ) (q : Holding b a k) (s : Asked n) (L : Layout) (h : Here wide b L) (m : Made) (e : allocate wide n L ≡ some m) where
+  grants : Granted wide (endOf (length b)) n L m
+  grants = allocate-grants wide (endOf (length b)) n even-wide L m (h .valid) (s .some-byte) e
+
+  pub old-live : payloadOf wide a (find wide a L) ∈ live wide (m .layout)
+  old-live = grants .adds .kept (payloadOf wide a (find wide a L)) (found-live wide a 312 (L .blocks) (q .live L h))
+
+  pub copy-room : (bytes to j : ℕ) → bytes ≡ length b → to ≡ m .at → j ≡ min k n → Room bytes a to j
+  copy-room bytes to j eb et ej =
+      let x = in-area wide (endOf (length b)) (m .layout) (grants .valid) (payloadOf wide a (find wide a L)) old-live in
+      let y = in-area wide (endOf (length b)) (m .layout) (grants .valid) (grants .payload) (grants .adds .there) in
+      let size : k ≡ capacity wide (find wide a L) = q .large L h in
+      record {
+        source = omega (arith, x .1);
+        target = omega (arith, y .1, grants .at, grants .large);
+        apart = ⊎-elim (λ z. inl (omega (arith, z, grants .at, grants .large))) (λ z. inr (omega (arith, z, grants .at, grants .large)))
+            (live-apart wide (endOf (length b)) (m .layout) (grants .valid) (payloadOf wide a (find wide a L)) (grants .payload) old-live (grants .adds .there)
+            (grants .adds .new (payloadOf wide a (find wide a L)) (found-live wide a 312 (L .blocks) (q .live L h))));
+      }
+
+  pub carried-here : (c : List ℕ) → length c ≡ length b → Here wide c (m .layout) → (to j : ℕ) → to ≡ m .at → j ≡ min k n → Here wide (copied a to j c) (m .layout)
+  carried-here c ec hc to j et ej =
+      let r = copy-room (length c) to j ec et ej in
+      let p : grants .payload .address ≡ to = grants .at ∙ sym et in
+      subst (λ (y : ℕ). Here wide (copied a y j c) (m .layout)) p
+      (copied-here wide c (m .layout) hc (grants .payload) (grants .adds .there) a j (omega (arith, grants .large)) (r .source))
+
+-- each way through carry
+module _ {b : List ℕ} {a k n : ℕ} (q : Holding b a k) (s : Asked n) {t : Taken} {c : List ℕ} (g : Allocates b n t c) where
+  pub not-carried : t ≡ NoRoom → Carried b a k n NoRoom c
+  not-carried e =
+      record {
+        is = λ L h.
+            let w = g .is L h in
+            let o : allocate wide n L ≡ none = taken-none (allocate wide n L) (sym e ∙ w .answer) in
+            rw o (record { answer = refl; bytes = rw o at (w .bytes); here = rw o at (w .here) });
+      }
+
+  module _ (x : Address) (e : t ≡ At x) where
+    chosen : (L : Layout) → Here wide b L → (m : Made) × (allocate wide n L ≡ some m) × (x .0 ≡ m .at)
+    chosen L h = taken-some (allocate wide n L) x (sym e ∙ g .is L h .answer)
+
+    pub room-to-copy : (bytes j : ℕ) → bytes ≡ length b → j ≡ min k n → Room bytes a (x .0) j
+    room-to-copy bytes j eb ej =
+        let L = q .ready .sound .layout in
+        let h = q .ready .sound .here in
+        let m = chosen L h in
+        copy-room b a k n q s L h (m .0) (m .1) bytes (x .0) j eb (m .2) ej
+
+    pub was-carried : length c ≡ length b → (j : ℕ) → j ≡ min k n → (d : List ℕ) → d ≡ copied a (x .0) j c → Carried b a k n (At x) d
+    was-carried ec j ej d ed =
+        record {
+          is = λ L h.
+              let w = g .is L h in
+              let m = chosen L h in
+              let ec′ : c ≡ drawn wide (m .0 .layout) b = rw (m .1) at (w .bytes) in
+              let hc : Here wide c (m .0 .layout) = rw (m .1) at (w .here) in
+              rw (m .1)
+              (record {
+                answer = ap (λ (y : ℕ). At (record { 0 = y })) (m .2);
+                bytes = ed ∙ ap (λ (y : ℕ). copied a y j c) (m .2) ∙ ap (λ (y : ℕ). copied a (m .0 .at) y c) ej ∙ ap (λ (y : List ℕ). copied a (m .0 .at) (min k n) y) ec′;
+                here = rw ed (carried-here b a k n q s L h (m .0) (m .1) c ec hc (x .0) j (m .2) ej);
+              });
+        }

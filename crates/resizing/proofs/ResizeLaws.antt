@@ -1,0 +1,235 @@
+-- Resize: what each way through the call shows.
+use Prim.Native.Nat.{ℕ, _+_, _-_, _*_, _≤_, _<_, min}
+use mathlib.Core.Path.{_≡_, refl, sym, ap, subst, _∙_}
+use mathlib.Core.Bool.{Bool, true, false}
+use mathlib.Core.List.{List}
+use mathlib.Core.Option.{Option, none, some}
+use native.Mathlib.Omega.{arith}
+use lib.ListN.{length}
+use Rattle.words.specs.Copy.{copied}
+use Rattle.words.proofs.WordLaws.{Bytes}
+use Rattle.model.specs.declared.Address.{Address}
+use Rattle.model.specs.declared.Position.{Position}
+use Rattle.model.specs.Shape.{wide, endOf, classOf, offsetOf, itemAt, addressOf}
+use Rattle.model.specs.Layout.{Layout}
+use Rattle.model.specs.Sound.{Here, Sound}
+use Rattle.model.specs.Rules.{Spot, Made, Found, block, thing, nothing, find, allocate, capacity, stays, freed}
+use Rattle.model.specs.Refusals.{notLive, noRoom}
+use Rattle.model.specs.Calls.{Outcome, refused, granted, found, drawn, without, moved, resized, made}
+use Rattle.model.proofs.Finding.{item-found}
+use Rattle.model.proofs.Moving.{payloadOf, taken-large, item-again}
+use Rattle.model.proofs.Resizing.{item-stays, item-moves, small-moves}
+use Rattle.find.specs.declared.Block.{Block}
+use Rattle.find.specs.declared.Live.{Live}
+use Rattle.find.specs.declared.Live.the-variants.{Nothing, Item, Variable}
+use Rattle.engine.specs.declared.allocate.Taken.{Taken}
+use Rattle.engine.specs.declared.allocate.Taken.the-variants.{At, NoRoom}
+use Rattle.resizing.specs.declared.resize.Resized.{Resized}
+use Rattle.resizing.specs.declared.resize.Resized.the-variants as to
+use Rattle.engine.specs.Ready.{Ready}
+use Rattle.find.specs.Find.{BlockFound, Finds}
+use Rattle.engine.specs.Allocate.{Asked, takenOf, layoutOf}
+use Rattle.engine.specs.Items.{ItemLive, GaveItem}
+use Rattle.engine.specs.Release.{BlockLive}
+use Rattle.engine.specs.Free.{freedBytes, Freed}
+use Rattle.resizing.specs.Resize.{isStaying, stayedBytes, Stays, Reshaped}
+use Rattle.resizing.specs.Move.{Holding, CarriedIn, Carried, ItemAt, BlockAt, outcomeOf, Moves, Resizes}
+use Rattle.resizing.proofs.ReshapeLaws.{drawn-same}
+use Rattle.resizing.proofs.MoveLaws.{taken-none, taken-some, old-live}
+
+not-nothing-item : (o c : ℕ) → thing o c ≡ nothing → ⊥
+not-nothing-item o c e = let z : _≡_ {A = ℕ} 0 1 = cc in omega arith
+
+not-nothing-block : (t : Spot) → block t ≡ nothing → ⊥
+not-nothing-block t e = let z : _≡_ {A = ℕ} 0 1 = cc in omega arith
+
+true-not-false : true ≡ false → ⊥
+true-not-false e = let z : _≡_ {A = ℕ} 0 1 = cc in omega arith
+
+-- a move that found no room, and one that did
+module _ {b : List ℕ} {a k n : ℕ} {t : Taken} {c : List ℕ} (g : Carried b a k n t c) where
+  pub moved-nowhere : t ≡ NoRoom → Moves b a n to.NoRoom c
+  moved-nowhere e =
+      record {
+        is = λ L h.
+            let w = g .is L h in
+            let o : allocate wide n L ≡ none = taken-none (allocate wide n L) (sym e ∙ w .answer) in
+            let ec : c ≡ b = rw o at (w .bytes) in
+            rw o (ap (λ (y : List ℕ). refused y noRoom) ec);
+      }
+
+  module _ (q : Holding b a k) (s : Asked n) (x : Address) (e : t ≡ At x) where
+    pub chosen : (L : Layout) → Here wide b L → (m : Made) × (allocate wide n L ≡ some m) × (x .0 ≡ m .at)
+    chosen L h = taken-some (allocate wide n L) x (sym e ∙ g .is L h .answer)
+
+    pub carried-in : (L : Layout) (h : Here wide b L) → Here wide c (chosen L h .0 .layout)
+    carried-in L h = rw (chosen L h .1) at (g .is L h .here)
+
+    pub ready-after : length c ≡ length b → Ready c
+    ready-after l = record { sound = record { layout = chosen (q .ready .sound .layout) (q .ready .sound .here) .0 .layout; here = carried-in (q .ready .sound .layout) (q .ready .sound .here) }; short = omega (arith, q .ready .short) }
+
+    -- the old place given back in the copied heap is the rule's last step
+    pub moved-to : (d : List ℕ) → ((L : Layout) (h : Here wide b L) → d ≡ drawn wide (without wide a (chosen L h .0 .layout)) c) → Moves b a n (to.To x) d
+    moved-to d f =
+        record {
+          is = λ L h.
+              let m = chosen L h in
+              let ec : c ≡ copied a (m .0 .at) (min k n) (drawn wide (m .0 .layout) b) = rw (m .1) at (g .is L h .bytes) in
+              let ek : c ≡ copied a (m .0 .at) (min (capacity wide (find wide a L)) n) (drawn wide (m .0 .layout) b) = ec ∙ ap (λ (y : ℕ). copied a (m .0 .at) (min y n) (drawn wide (m .0 .layout) b)) (q .large L h) in
+              let all : d ≡ drawn wide (without wide a (m .0 .layout)) (copied a (m .0 .at) (min (capacity wide (find wide a L)) n) (drawn wide (m .0 .layout) b)) = f L h ∙ ap (λ (y : List ℕ). drawn wide (without wide a (m .0 .layout)) y) ek in
+              ap (λ (y : ℕ). granted y d) (m .2) ∙ ap (λ (y : List ℕ). granted (m .0 .at) y) all
+              ∙ ap (λ (o : Option Made). made wide b o (λ (z : Made). drawn wide (without wide a (z .layout)) (copied a (z .at) (min (capacity wide (find wide a L)) n) (drawn wide (z .layout) b)))) (sym (m .1));
+        }
+
+    pub freed-to : (r : Bool) (d : List ℕ) → Bytes c → Freed c a r d → Moves b a n (to.To x) d
+    unfolding freed
+    freed-to r d bytes f = moved-to d (λ L h. f .bytes (chosen L h .0 .layout) (carried-in L h) ∙ go (chosen L h .0 .layout) (carried-in L h) (find wide a (chosen L h .0 .layout)))
+      where
+        go : (M : Layout) → Here wide c M → (y : Found) → freedBytes c M y ≡ drawn wide (freed wide y M) c
+        go M i nothing = drawn-same c M i bytes
+        go M i (block u) = refl
+        go M i (thing o d) = refl
+
+-- in place or by a move, of something that is live
+module _ (b : List ℕ) (a n : ℕ) (L : Layout) (live : find wide a L ≡ nothing → ⊥) where
+  found-there : (f : Found) → (f ≡ nothing → ⊥) → (x y : Outcome) → found wide f x y ≡ y
+  found-there nothing l x y = absurd (l refl)
+  found-there (block t) l x y = refl
+  found-there (thing o c) l x y = refl
+
+  abbrev rule : Option Layout → Outcome
+  rule o = found wide (find wide a L) (refused b notLive) (resized wide b a (moved wide b a n L) o)
+
+  pub goes : (r : Outcome) → stays wide n (find wide a L) L ≡ none → r ≡ moved wide b a n L → r ≡ rule (stays wide n (find wide a L) L)
+  goes r s e = e ∙ sym (found-there (find wide a L) live (refused b notLive) (moved wide b a n L)) ∙ ap rule (sym s)
+
+  pub remains : (c : List ℕ) (M : Layout) → stays wide n (find wide a L) L ≡ some M → c ≡ drawn wide M b → granted a c ≡ rule (stays wide n (find wide a L) L)
+  remains c M s e = ap (λ (y : List ℕ). granted a y) e ∙ sym (found-there (find wide a L) live (refused b notLive) (granted a (drawn wide M b))) ∙ ap rule (sym s)
+
+-- an item
+module _ {b : List ℕ} {a q c : ℕ} (i : ItemAt b a q c) where
+  is-live : (L : Layout) → Here wide b L → find wide a L ≡ nothing → ⊥
+  is-live L h e = not-nothing-item (offsetOf wide q) c (sym (i .is L h) ∙ e)
+
+  pub few : c < 32
+  few =
+      let L = i .ready .sound .layout in
+      let h = i .ready .sound .here in
+      item-found wide (omega arith) a (offsetOf wide q) c 312 (L .blocks) (omega arith) (h .valid .allowed) (i .is L h) .class
+
+  pub item-holds : Holding b a (8 * c + 8)
+  item-holds = record { ready = i .ready; live = is-live; large = λ L h. ap (capacity wide) (sym (i .is L h)) }
+
+  pub same-class : {n : ℕ} (k : ℕ) → k ≡ classOf n → k ≡ c → Bytes b → Resizes b a n (to.To (record { 0 = a })) b
+  same-class {n} k e f bytes =
+      record {
+        is = λ L h.
+            let s : stays wide n (find wide a L) L ≡ some L = ap (λ (y : Found). stays wide n y L) (i .is L h) ∙ item-stays wide n (offsetOf wide q) c L few (sym e ∙ f) in
+            remains b a n L (is-live L h) b L s (drawn-same b L h bytes);
+      }
+
+  pub item-goes : {n : ℕ} (k : ℕ) → k ≡ classOf n → (k ≡ c → ⊥) → (r : Resized) (d : List ℕ) → Moves b a n r d → Resizes b a n r d
+  item-goes {n} k e f r d g =
+      record {
+        is = λ L h.
+            let s : stays wide n (find wide a L) L ≡ none = ap (λ (y : Found). stays wide n y L) (i .is L h) ∙ item-moves wide n (offsetOf wide q) c L (λ z. f (e ∙ z)) in
+            goes b a n L (is-live L h) (outcomeOf r d) s (g .is L h);
+      }
+
+  module _ {n : ℕ} {t : Taken} {d : List ℕ} (g : Carried b a (8 * c + 8) n t d) (s : Asked n) (x : Address) (e : t ≡ At x) where
+    again : (L : Layout) (h : Here wide b L) → find wide a (chosen g item-holds s x e L h .0 .layout) ≡ thing (offsetOf wide q) c
+    again L h =
+        let m = chosen g item-holds s x e L h in
+        let f = item-found wide (omega arith) a (offsetOf wide q) c 312 (L .blocks) (omega arith) (h .valid .allowed) (i .is L h) in
+        let hc = carried-in g item-holds s x e L h in
+        item-again wide (omega arith) (endOf (length d)) (m .0 .layout) (hc .valid) a (offsetOf wide q) c few (f .at)
+        (rw (i .is L h) at (old-live b a (8 * c + 8) n item-holds s L h (m .0) (m .1)))
+
+    pub item-still : length d ≡ length b → ItemLive d q c
+    item-still l =
+        let L = i .ready .sound .layout in
+        let h = i .ready .sound .here in
+        record { layout = chosen g item-holds s x e L h .0 .layout; here = carried-in g item-holds s x e L h; short = omega (arith, i .ready .short); low = i .low; address = a; found = again L h }
+
+    pub item-gone : (k : ℕ) → k ≡ classOf n → (k ≡ c → ⊥) → (d′ : List ℕ) → GaveItem d q c d′ → Resizes b a n (to.To x) d′
+    item-gone k ek f d′ w =
+        item-goes k ek f (to.To x) d′
+        (moved-to g item-holds s x e d′ (λ L h.
+        w .draws (chosen g item-holds s x e L h .0 .layout) a (carried-in g item-holds s x e L h) (again L h)
+        ∙ ap (λ (y : Found). drawn wide (freed wide y (chosen g item-holds s x e L h .0 .layout)) d) (sym (again L h))))
+
+-- a variable block
+module _ {b : List ℕ} {a : ℕ} {x : Block} (i : BlockAt b a x) where
+  block-is-live : (L : Layout) → Here wide b L → find wide a L ≡ nothing → ⊥
+  block-is-live L h e = not-nothing-block (i .is L h .0) (sym (i .is L h .1 .found) ∙ e)
+
+  pub block-large : 280 ≤ x .size
+  block-large =
+      let L = i .ready .sound .layout in
+      let h = i .ready .sound .here in
+      omega (arith, taken-large wide (omega arith) (endOf (length b)) L (h .valid) a (i .is L h .0) (i .is L h .1 .found), i .is L h .1 .size)
+
+  pub block-holds : Holding b a (x .size - 16)
+  block-holds =
+      record {
+        ready = i .ready;
+        live = block-is-live;
+        large = λ L h. let w = i .is L h in ap (λ (y : ℕ). y - 16) (sym (w .1 .size)) ∙ ap (capacity wide) (sym (w .1 .found));
+      }
+
+  pub block-there : BlockLive b x
+  block-there =
+      let L = i .ready .sound .layout in
+      let h = i .ready .sound .here in
+      record { layout = L; here = h; short = i .ready .short; address = a; spot = i .is L h .0; found = i .is L h .1 }
+
+  pub small-goes : {n : ℕ} → n ≤ 256 → (r : Resized) (d : List ℕ) → Moves b a n r d → Resizes b a n r d
+  small-goes {n} l r d g =
+      record {
+        is = λ L h.
+            let s : stays wide n (find wide a L) L ≡ none = ap (λ (y : Found). stays wide n y L) (i .is L h .1 .found) ∙ small-moves wide n (i .is L h .0) L l in
+            goes b a n L (block-is-live L h) (outcomeOf r d) s (g .is L h);
+      }
+
+  module _ {n : ℕ} {r : Bool} {c : List ℕ} (g : Reshaped b x n r c) where
+    told : (L : Layout) (h : Here wide b L) → Stays b L (stays wide n (find wide a L) L) r c
+    told L h = let w = i .is L h in rw (w .1 .found) (g .is L a (w .0) h (w .1))
+
+    pub reshaped-there : r ≡ true → Resizes b a n (to.To (record { 0 = a })) c
+    reshaped-there e = record { is = λ L h. go L h (stays wide n (find wide a L) L) refl (told L h) }
+      where
+        go : (L : Layout) (h : Here wide b L) (o : Option Layout) → stays wide n (find wide a L) L ≡ o → Stays b L o r c → granted a c ≡ rule b a n L (block-is-live L h) (stays wide n (find wide a L) L)
+        go L h none s w = absurd (true-not-false (sym e ∙ w .answer))
+        go L h (some M) s w = remains b a n L (block-is-live L h) c M s (w .bytes)
+
+    none-of : (L : Layout) (o : Option Layout) → r ≡ false → Stays b L o r c → (o ≡ none) × (c ≡ b)
+    none-of L none e w = (refl, w .bytes)
+    none-of L (some M) e w = absurd (true-not-false (sym (w .answer) ∙ e))
+
+    pub as-before : r ≡ false → c ≡ b
+    as-before e = let L = i .ready .sound .layout in none-of L (stays wide n (find wide a L) L) e (told L (i .ready .sound .here)) .1
+
+    pub still-there : r ≡ false → BlockAt c a x
+    still-there e = subst (λ (y : List ℕ). BlockAt y a x) (sym (as-before e)) i
+
+    pub large-goes : r ≡ false → (y : Resized) (d : List ℕ) → Moves c a n y d → Resizes b a n y d
+    large-goes e y d w =
+        let w′ : Moves b a n y d = subst (λ (z : List ℕ). Moves z a n y d) (as-before e) w in
+        record { is = λ L h. goes b a n L (block-is-live L h) (outcomeOf y d) (none-of L (stays wide n (find wide a L) L) e (told L h) .0) (w′ .is L h) }
+
+-- what is found
+module _ (b : List ℕ) (a : ℕ) (k : Ready b) (x : Live) (f : (L : Layout) → Here wide b L → Finds L a x) where
+  found-as : (y : Live) → x ≡ y → (L : Layout) → Here wide b L → Finds L a y
+  found-as y e L h = subst (λ (z : Live). Finds L a z) e (f L h)
+
+  pub nothing-live : {n : ℕ} → x ≡ Nothing → Resizes b a n to.NotLive b
+  unfolding Finds
+  nothing-live e = record { is = λ L h. rw (found-as Nothing e L h) refl }
+
+  pub item-at : (q : Position) (c : ℕ) → x ≡ Item q c → ItemAt b a (q .0) c
+  unfolding Finds
+  item-at q c e = record { ready = k; low = found-as (Item q c) e (k .sound .layout) (k .sound .here) .0; is = λ L h. found-as (Item q c) e L h .1 }
+
+  pub block-at : (y : Block) → x ≡ Variable y → BlockAt b a y
+  unfolding Finds
+  block-at y e = record { ready = k; is = λ L h. found-as (Variable y) e L h }

@@ -1,0 +1,79 @@
+use Rattle.resizing.proofs.ReshapeLaws.{must-move, stays-so, room-for, resizes}
+use native.Mathlib.Omega.{arith}
+use mathlib.Core.Logic.{⊎-elim}
+use mathlib.Core.Path.{refl}
+use borrow.Author.Needs.{needs}
+use Rattle.resizing.proofs.reshape.reshape.Statement.{statement}
+use Rattle.resizing.proofs.reshape.reshape.Tie as tie
+use Rattle.resizing.proofs.reshape.reshape.Reads as reads
+use Rattle.resizing.proofs.reshape.reshape.Lts as lts
+use Rattle.engine.proofs.blocks.put_high.Reads as put-high-reads
+use Rattle.engine.proofs.blocks.put_low.Reads as put-low-reads
+use Rattle.engine.proofs.blocks.taken.Reads as taken-reads
+use Rattle.resizing.proofs.reshape.reach.Reads as reach-reads
+use Rattle.model.proofs.need_of.Reads as need-of-reads
+
+-- src/reshape.rt:42:9
+need-of-requires : tie.Need-need-of-requires
+need-of-requires c κs = search needs
+
+-- src/reshape.rt:43:9
+reach-requires : tie.Need-reach-requires
+reach-requires c κs = search needs
+
+-- src/reshape.rt:45:9
+same-length : tie.Need-same-length
+same-length c = search needs
+
+-- src/reshape.rt:45:9
+returns : tie.Need-returns
+returns c = must-move _ _ (c .before .before .before .before .before .before .pre .0) _ (c .before .before .reach .ensures) _ _ (c .before .before .before .before .before .before .pre .1) (c .before .before .before .before .need-of .ensures) (c .if1 .taken)
+
+-- src/reshape.rt:48:21
+add-if3 : tie.Need-add-if3
+add-if3 c = search needs
+
+-- src/reshape.rt:49:13
+same-length-2 : tie.Need-same-length-2
+same-length-2 c = search needs
+
+-- src/reshape.rt:49:13
+returns-2 : tie.Need-returns-2
+returns-2 c = stays-so _ _ (c .before .before .before .before .before .before .before .before .before .before .pre .0) _ (c .before .before .before .before .before .before .reach .ensures) _ _ (c .before .before .before .before .before .before .before .before .before .before .pre .1) (c .before .before .before .before .before .before .before .before .need-of .ensures) (c .before .before .if2 .taken) (c .if3 .taken) (λ i. c .before .before .before .before .before .before .before .before .before .slice-known .given i .fits)
+
+-- src/reshape.rt:52:9
+taken-requires : tie.Need-taken-requires
+taken-requires c κs = search needs
+
+-- src/reshape.rt:53:5
+put-low-requires : tie.Need-put-low-requires
+put-low-requires c κs = room-for _ _ (c .before .before .before .before .before .before .before .before .before .before .pre .0) _ (c .before .before .before .before .before .before .reach .ensures) _ _ (c .before .before .before .before .before .before .before .before .before .before .pre .1) (c .before .before .before .before .before .before .before .before .need-of .ensures) (c .before .before .before .before .if1 .left) _ _ (c .before .taken .ensures) refl
+
+-- src/reshape.rt:54:5
+put-high-requires : tie.Need-put-high-requires
+put-high-requires c κs = room-for _ _ (c .before .before .before .before .before .before .before .before .before .before .before .before .before .before .pre .0) _ (c .before .before .before .before .before .before .before .before .before .before .reach .ensures) _ _ (c .before .before .before .before .before .before .before .before .before .before .before .before .before .before .pre .1) (c .before .before .before .before .before .before .before .before .before .before .before .before .need-of .ensures) (c .before .before .before .before .before .before .before .before .if1 .left) _ _ (c .before .before .before .before .before .taken .ensures) (search needs)
+
+-- src/reshape.rt:37:1
+same-length-3 : tie.Need-same-length-3
+same-length-3 c = search needs
+
+-- src/reshape.rt:37:1
+returns-3 : tie.Need-returns-3
+returns-3 c = resizes _ _ (c .before .before .before .before .before .before .before .before .before .before .before .before .before .before .before .before .before .pre .0) _ (c .before .before .before .before .before .before .before .before .before .before .before .before .before .reach .ensures) _ _ (c .before .before .before .before .before .before .before .before .before .before .before .before .before .before .before .before .before .pre .1) (c .before .before .before .before .before .before .before .before .before .before .before .before .before .before .before .need-of .ensures) (c .before .before .before .before .before .before .before .before .before .before .before .if1 .left) (λ z. ⊎-elim (λ w. omega arith) (λ w. omega arith) (c .before .before .before .before .before .before .before .before .before .if2 .came)) (λ i. c .before .before .before .before .before .before .before .before .before .before .before .before .before .before .before .before .slice-known .given i .fits) _ (c .before .before .before .before .before .before .before .before .taken .ensures) _ _ (c .before .before .before .before .before .before .put-low .ensures) (c .before .before .put-high .ensures)
+
+pub reshape-spec : {M : Type 1} → statement M
+reshape-spec =
+    tie.close
+    (tie.spec
+    need-of-requires
+    reach-requires
+    same-length
+    returns
+    add-if3
+    same-length-2
+    returns-2
+    taken-requires
+    put-low-requires
+    put-high-requires
+    same-length-3
+    returns-3)

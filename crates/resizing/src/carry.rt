@@ -1,0 +1,31 @@
+// The first half of a move: room is found while the old record still stands, and its bytes are copied there.
+use engine::allocate::Taken;
+use engine::allocate::allocate;
+use words::bytes::copy;
+ghost use mathlib.Core.Path.{_≡_};
+ghost use Prim.Native.Nat.{min};
+ghost use Rattle.engine.specs.Allocate.{Asked};
+ghost use Rattle.resizing.specs.Move.{Holding, Carried};
+
+// The smaller of two numbers.
+fn smaller(k: usize, n: usize) -> usize
+    ensures { λ r. ⌜ r ≡ min k n ⌝ }
+{
+    if k < n { k } else { n }
+}
+
+// Allocates n bytes, and copies there what fits of the k bytes of the record at a.
+pub fn carry(h: &mut [u8], a: usize, k: usize, n: usize) -> Taken
+    requires { ⌜ Holding (now h) a k ⌝ }
+    requires { ⌜ Asked n ⌝ }
+    ensures { λ r. ⌜ Carried (now (h .entry)) a k n r (now (h .exit)) ⌝ }
+{
+    let t = allocate(h, n);
+    match t {
+        Taken::NoRoom => Taken::NoRoom,
+        Taken::At(new) => {
+            copy(h, a, new.0, smaller(k, n));
+            Taken::At(new)
+        }
+    }
+}

@@ -1,0 +1,4 @@
+// Resize, once the heap is known to be as it must be: where the record stands, or by a move.
+pub mod carry;
+pub mod reshape;
+pub mod resize;
