@@ -1,7 +1,7 @@
 # `make test` runs every test; `make run` runs the main job. See README.md.
 
 # The calls that the library has.
-CALLS = initialise,check,allocate,free
+CALLS = initialise,check,allocate,resize,free
 # compare: so many calls and so many damaged heaps, from this seed.
 N ?= 100000
 DAMAGED ?= 5000
