@@ -36,6 +36,7 @@ pub mod ItemLives
 pub mod Allocation
 pub mod Resizing
 pub mod Moving
+pub mod Mending
 pub mod Room
 pub mod Totals
 pub mod Passing

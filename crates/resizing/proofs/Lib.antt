@@ -1,3 +1,5 @@
 mod ReshapeLaws
 mod MoveLaws
+mod MendLaws
+mod BlockMoving
 mod ResizeLaws

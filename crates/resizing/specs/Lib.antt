@@ -1,2 +1,3 @@
 pub mod Resize
 pub mod Move
+pub mod Mend

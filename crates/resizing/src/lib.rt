@@ -1,4 +1,5 @@
 // Resize, once the heap is known to be as it must be: where the record stands, or by a move.
 pub mod carry;
+pub mod mend;
 pub mod reshape;
 pub mod resize;

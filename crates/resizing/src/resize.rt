@@ -1,15 +1,18 @@
 // Resize, once the heap is known to be sound and the size to be good: in place, or else by a move.
 use crate::carry::carry;
+use crate::mend::mend;
 use crate::reshape::reshape;
 use engine::allocate::Taken;
-use engine::free::free;
 use engine::items::give;
+use engine::release::release;
 use find::Block;
 use find::Live;
 use find::find;
+use links::back_at;
 use model::Address;
 use model::Position;
 use model::class_of;
+use words::word;
 ghost use Rattle.engine.specs.Allocate.{Asked};
 ghost use Rattle.engine.specs.Ready.{Ready};
 ghost use Rattle.resizing.specs.Move.{ItemAt, BlockAt, Moves, Resizes};
@@ -40,17 +43,19 @@ fn resize_item(h: &mut [u8], a: usize, q: Position, c: usize, n: usize) -> Resiz
     }
 }
 
-// The variable block x by a move.
+// The variable block x by a move. The free block before it is read first: the allocation may take the one that stands between.
 fn move_block(h: &mut [u8], a: usize, x: Block, n: usize) -> Resized
     requires { ⌜ BlockAt (now h) a x ⌝ }
     requires { ⌜ Asked n ⌝ }
     ensures { λ r. ⌜ Moves (now (h .entry)) a n r (now (h .exit)) ⌝ }
 {
+    let before = word(h, back_at(h, x.prev.0));
     let t = carry(h, a, x.size - 16, n);
     match t {
         Taken::NoRoom => Resized::NoRoom,
         Taken::At(new) => {
-            let _ = free(h, a);
+            let y = mend(h, x, before);
+            release(h, y);
             Resized::To(new)
         }
     }

@@ -1,4 +1,6 @@
-use Rattle.resizing.proofs.ResizeLaws.{moved-nowhere, block-large, block-holds, ready-after, freed-to}
+use Rattle.resizing.proofs.BlockMoving.{mendable, found-again, given-back}
+use Rattle.resizing.proofs.MendLaws.{prev-back, back-room}
+use Rattle.resizing.proofs.ResizeLaws.{moved-nowhere, block-large, block-holds}
 use native.Mathlib.Omega.{arith}
 use borrow.Author.Needs.{needs}
 use Rattle.resizing.proofs.resize.move_block.Statement.{statement}
@@ -6,53 +8,71 @@ use Rattle.resizing.proofs.resize.move_block.Tie as tie
 use Rattle.resizing.proofs.resize.move_block.Reads as reads
 use Rattle.resizing.proofs.resize.move_block.Lts as lts
 use Rattle.resizing.proofs.carry.carry.Reads as carry-reads
-use Rattle.engine.proofs.free.free.Reads as free-reads
+use Rattle.links.proofs.back_at.Reads as back-at-reads
+use Rattle.resizing.proofs.mend.mend.Reads as mend-reads
+use Rattle.engine.proofs.release.release.Reads as release-reads
+use Rattle.words.proofs.word.Reads as word-reads
 
--- src/resize.rt:49:25
+-- src/resize.rt:52:26
+back-at-requires : tie.Need-back-at-requires
+back-at-requires c κs = prev-back (c .before .before .pre .0)
+
+-- src/resize.rt:52:9
+word-requires : tie.Need-word-requires
+word-requires c κs = back-room (c .before .before .before .pre .0) _ (c .back-at .ensures)
+
+-- src/resize.rt:53:25
 sub-carry : tie.Need-sub-carry
-sub-carry c = omega (arith, block-large (c .before .before .before .pre .0))
+sub-carry c = omega (arith, block-large (c .before .before .before .before .before .before .pre .0))
 
--- src/resize.rt:49:9
+-- src/resize.rt:53:9
 carry-requires : tie.Need-carry-requires
-carry-requires c κs = (block-holds (c .before .before .before .pre .0), c .before .before .before .pre .1)
+carry-requires c κs = (block-holds (c .before .before .before .before .before .before .pre .0), c .before .before .before .before .before .before .pre .1)
 
--- src/resize.rt:51:26
+-- src/resize.rt:55:26
 enum-told : tie.Need-enum-told
 enum-told c = search needs
 
--- src/resize.rt:52:19
+-- src/resize.rt:56:19
 enum-known-t : tie.Need-enum-known-t
 enum-known-t c = search needs
 
--- src/resize.rt:53:21
-free-requires : tie.Need-free-requires
-free-requires c κs = ready-after (c .before .before .before .before .before .before .carry .ensures) (block-holds (c .before .before .before .before .before .before .before .before .before .before .pre .0)) (c .before .before .before .before .before .before .before .before .before .before .pre .1) _ (c .before .before .t .given .1) (search needs)
+-- src/resize.rt:57:17
+mend-requires : tie.Need-mend-requires
+mend-requires c κs = mendable (c .before .before .before .before .before .before .before .before .before .before .before .before .before .pre .0) (c .before .before .before .before .before .before .carry .ensures) (c .before .before .before .before .before .before .before .before .before .before .before .before .before .pre .1) _ (c .before .before .t .given .1) _ _ (c .before .before .before .before .before .before .before .before .before .before .back-at .ensures) (c .before .before .before .before .before .before .before .before .before .word .ensures)
 
--- src/resize.rt:44:1
+-- src/resize.rt:58:13
+release-requires : tie.Need-release-requires
+release-requires c κs = found-again (c .before .before .before .before .before .before .before .before .before .before .before .before .before .before .before .pre .0) (c .before .before .before .before .before .before .before .before .carry .ensures) (c .before .before .before .before .before .before .before .before .before .before .before .before .before .before .before .pre .1) _ (c .before .before .before .before .t .given .1) _ _ (c .before .before .before .before .before .before .before .before .before .before .before .before .back-at .ensures) (c .before .before .before .before .before .before .before .before .before .before .before .word .ensures) (c .before .mend .ensures) (search needs)
+
+-- src/resize.rt:47:1
 same-length : tie.Need-same-length
 same-length c = search needs
 
--- src/resize.rt:44:1
+-- src/resize.rt:47:1
 returns : tie.Need-returns
 returns c = moved-nowhere (c .before .before .before .before .carry .ensures) (c .enum-told .given .1)
 
--- src/resize.rt:44:1
+-- src/resize.rt:47:1
 same-length-2 : tie.Need-same-length-2
 same-length-2 c = search needs
 
--- src/resize.rt:44:1
+-- src/resize.rt:47:1
 returns-2 : tie.Need-returns-2
-returns-2 c = freed-to (c .before .before .before .before .before .before .before .before .before .carry .ensures) (block-holds (c .before .before .before .before .before .before .before .before .before .before .before .before .before .pre .0)) (c .before .before .before .before .before .before .before .before .before .before .before .before .before .pre .1) _ (c .before .before .before .before .before .t .given .1) _ _ (λ i. c .before .before .before .before .before .before .before .slice-known2 .given i .fits) (c .before .before .free .ensures)
+returns-2 c = given-back (c .before .before .before .before .before .before .before .before .before .before .before .before .before .before .before .before .before .before .pre .0) (c .before .before .before .before .before .before .before .before .before .before .before .carry .ensures) (c .before .before .before .before .before .before .before .before .before .before .before .before .before .before .before .before .before .before .pre .1) _ (c .before .before .before .before .before .before .before .t .given .1) _ _ (c .before .before .before .before .before .before .before .before .before .before .before .before .before .before .before .back-at .ensures) (c .before .before .before .before .before .before .before .before .before .before .before .before .before .before .word .ensures) (c .before .before .before .before .mend .ensures) _ (c .before .before .release .ensures)
 
 pub move-block-spec : {M : Type 1} → statement M
 move-block-spec =
     tie.close
     (tie.spec
+    back-at-requires
+    word-requires
     sub-carry
     carry-requires
     enum-told
     enum-known-t
-    free-requires
+    mend-requires
+    release-requires
     same-length
     returns
     same-length-2

@@ -1,0 +1,22 @@
+-- What finding the free block before a variable block again asks and promises, once an allocation may have taken it.
+use Prim.Native.Nat.{ℕ}
+use mathlib.Core.Path.{_≡_}
+use mathlib.Core.List.{List}
+use lib.ListN.{length}
+use Rattle.model.specs.Shape.{wide}
+use Rattle.model.specs.Layout.{Layout}
+use Rattle.model.specs.Sound.{Here}
+use Rattle.model.proofs.Mending.{Stands, Mend}
+use Rattle.find.specs.declared.Block.{Block}
+
+-- x is a block as it was found before an allocation, and `before` is the free block before the one at its prev
+pub record Mendable (b : List ℕ) (x : Block) (before : ℕ) : Type 0 where
+  pub layout : Layout
+  pub here : Here wide b layout
+  pub mend : Mend wide layout (x .at .0) (x .size) (x .prev .0) (x .left) before
+
+-- y is that block as it is found now
+pub record Mended (b : List ℕ) (x : Block) (before : ℕ) (y : Block) : Type 0 where
+  pub at : y .at .0 ≡ x .at .0
+  pub size : y .size ≡ x .size
+  pub stands : (L : Layout) → Here wide b L → Mend wide L (x .at .0) (x .size) (x .prev .0) (x .left) before → Stands wide L (x .at .0) (x .size) (y .prev .0) (y .left)
