@@ -3,10 +3,10 @@ use Prim.Native.Nat.{ℕ, _≤_, _<_}
 use mathlib.Core.Path.{_≡_}
 use mathlib.Core.List.{List, []}
 use mathlib.Core.Option.{Option, none, some}
-use lib.ListN.{length, getD}
+use lib.ListN.{getD}
 use Rattle.model.specs.Shape.{wide}
 use Rattle.model.specs.Layout.{Layout}
-use Rattle.model.specs.Sound.{Here, Sound}
+use Rattle.model.specs.Sound.{Here}
 use Rattle.model.specs.Rules.{Made, fit, anItem, aBlock, allocate}
 use Rattle.model.specs.Calls.{drawn}
 use Rattle.engine.specs.Ready.{Ready}

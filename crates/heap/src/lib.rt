@@ -88,7 +88,7 @@ pub fn initialise(h: &mut [u8]) -> Answer
 }
 
 // The length, the first 8 bytes, and soundness, in that order.
-pub fn examine(h: &[u8]) -> Verdict
+fn examine(h: &[u8]) -> Verdict
     ensures { λ r. ⌜ Examined (now (h .entry)) r ⌝ }
 {
     if !is_lent(h) {

@@ -7,7 +7,7 @@ use reading::holding::capacity;
 ghost use Rattle.heap.specs.Lookup.{HeldTold, Part, PartTold, RefusalTold};
 
 // How many bytes are live at an address, 0 where refused; and the refusal number.
-pub struct Held {
+struct Held {
     pub size: usize,
     pub refusal: u64,
 }

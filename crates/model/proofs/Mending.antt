@@ -9,7 +9,7 @@ use native.Mathlib.Decide.{decLe, decLt}
 use lib.ListN.{getD}
 use borrow.Author.Tests.{le-leb, lt-leb, lt-ltb, le-ltb}
 use Rattle.model.specs.Shape.{Shape, start, largest, classOf, needOf, pageNeed, itemAt}
-use Rattle.model.specs.Layout.{Slot, held, Use, variable, page, Block, free, used, Layout, ifFree, useSize, sizeOf, ends}
+use Rattle.model.specs.Layout.{Slot, held, Use, variable, Block, free, used, Layout, ifFree, useSize, sizeOf, ends}
 use Rattle.model.specs.Sound.{Valid}
 use Rattle.model.specs.Rules.{Spot, Made, fit, useTo, itemTo, popped, paged, fromList, fromPage, anItem, aBlock, allocate, placed, asVariable}
 use Rattle.model.proofs.Blocks.{lastFree, ends-append, last-append}

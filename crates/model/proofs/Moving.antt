@@ -10,7 +10,7 @@ use borrow.Author.Tests.{eq-eqb, ne-eqb}
 use Rattle.words.specs.Copy.{copied}
 use Rattle.words.proofs.WordLaws.{word-agree}
 use Rattle.words.proofs.CopyLaws.{length-copied, copied-out}
-use Rattle.model.specs.Shape.{Shape, start, tags, leastTaken, item, holds, addressOf, offsetOf, itemAt, endOf}
+use Rattle.model.specs.Shape.{Shape, start, tags, leastTaken, item, holds, addressOf, itemAt, endOf}
 use Rattle.model.specs.Layout.{Slot, idle, held, variable, page, Block, free, used, Layout, useSize, words}
 use Rattle.model.specs.Sound.{Allowed, AllowedUse, AllAllowed, Valid, Here}
 use Rattle.model.specs.Rules.{Spot, Found, block, thing, nothing, behind, orElse, inSlots, findFrom, capacity}

@@ -44,12 +44,6 @@ module _ {L : Layout} {p : ℕ} {pre rest : List Block} (s : Passed L p pre rest
     passed-fills =
         ap (λ (y : ℕ). ends wide y rest) (sym (s .begins)) ∙ sym (ends-append wide 312 pre rest) ∙ ap (λ (l : List Block). ends wide 312 l) (sym (s .blocks)) ∙ h .valid .fills
 
-    pub passed-below : p ≤ endOf (length b)
-    passed-below = omega (arith, passed-fills, le-ends wide p rest)
-
-    pub passed-from : 312 ≤ p
-    passed-from = omega (arith, s .begins, le-ends wide 312 pre)
-
     -- at the end all blocks are passed
     pub passed-none : endOf (length b) ≤ p → rest ≡ []
     unfolding AllAllowed ends

@@ -14,7 +14,7 @@ use Rattle.model.specs.Sound.{Allowed, AllowedUse, AllAllowed, Apart, id
 use Rattle.model.specs.Rules.{Spot, block, thing, before, asVariable, cut, shrunk, grown, reshaped, stays}
 use Rattle.model.proofs.Blocks.{allowed-left, allowed-right}
 use Rattle.model.proofs.Replace.{three}
-use Rattle.model.proofs.Valid.{endsFree, apart-down, replaced-valid-at}
+use Rattle.model.proofs.Valid.{apart-down, replaced-valid-at}
 use Rattle.model.proofs.Taken.{Takes, takes, parts, takes-of, takes-eight}
 use Rattle.model.proofs.Releasing.{Side, nobody, neighbour, before-apart}
 use Rattle.model.proofs.Allocation.{up-above, need-eight}

@@ -78,9 +78,6 @@ module _ {b : List ℕ} {c first n size q left held : ℕ} (i : Held b c first n
         rest = omega (arith, i .rest, held-turn b c q left l);
       }
 
-  pub held-small : held ≤ n
-  held-small = omega (arith, i .small)
-
   pub held-done : left ≡ 0 → (held ≡ heldFrom b c first n) × (held ≤ n)
   unfolding heldFrom
   held-done e = let r : held + heldFrom b c q 0 ≡ heldFrom b c first n = rw e at (i .rest) in (omega (arith, r), omega (arith, i .small))

@@ -78,9 +78,6 @@ module _ {b : List ℕ} {w p : ℕ} (g : Towards b w p) where
 -- the walk has come to w, where a block begins
 module _ {b : List ℕ} {w : ℕ} (g : Towards b w w) (t : ℕ) (e : t ≡ wordAt 8 b w) (l : w < endOf (length b)) where
   module _ (L : Layout) (h : Here wide b L) where
-    toward-here : Toward L w w
-    toward-here = g .toward L h
-
     met-is : (x : Block) (after : List Block) → g .toward L h .rest ≡ x ∷ after → (k : Kind) → k ≡ kindOf wide w (lastFree wide 312 (g .toward L h .pre) 0) x after → (s : ℕ) → sizeOf wide x ≡ s
         → record { position = w; size = s; kind = k; next = w + s } ≡ step wide w L
     met-is x after r k ek s es =

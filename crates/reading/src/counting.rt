@@ -43,6 +43,7 @@ fn one_if(x: usize, y: usize) -> u64
     0
 }
 
+// The larger of two numbers.
 fn larger(a: u64, b: u64) -> u64
     ensures { λ r. ⌜ r ≡ max a b ⌝ }
 {

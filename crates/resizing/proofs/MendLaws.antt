@@ -1,5 +1,5 @@
 -- The free block before a variable block, found again: what the tags say after an allocation.
-use Prim.Native.Nat.{ℕ, _+_, _-_, _*_, _/_, _%_, _≤_, _<_}
+use Prim.Native.Nat.{ℕ, _+_, _-_, _*_, _/_, _%_, _≤_}
 use mathlib.Core.Path.{_≡_, refl, sym, ap, subst, _∙_}
 use mathlib.Core.List.{List, [], _∷_, _++_, append-assoc, append-nil}
 use mathlib.Core.Logic.{_⊎_, inl, inr, ⊎-elim}
@@ -8,16 +8,15 @@ use native.Mathlib.Decide.{ℕ-discrete}
 use lib.ListN.{length}
 use borrow.Author.Tests.{eq-eqb, ne-eqb}
 use Rattle.words.specs.Word.{wordAt}
-use Rattle.model.specs.declared.Position.{Position}
-use Rattle.model.specs.Shape.{wide, endOf}
+use Rattle.model.specs.Shape.{wide}
 use Rattle.model.specs.Layout.{Use, variable, page, Block, free, used, Layout, useSize, sizeOf, ends, firstFree}
 use Rattle.model.specs.Sound.{AllAllowed, Here}
 use Rattle.model.specs.Rules.{Spot, Found, block, find, findFrom}
 use Rattle.model.proofs.Blocks.{lastFree, ends-append, le-ends, allowed-left}
-use Rattle.model.proofs.Middle.{linkOf, backOf, middle-at, free-read}
+use Rattle.model.proofs.Middle.{backOf, middle-at, free-read}
 use Rattle.model.proofs.Standing.{Met, met, tagOf}
-use Rattle.model.proofs.Finding.{behinds, find-past, find-at, block-found}
-use Rattle.model.proofs.Mending.{NoFree, Last, last-of, Stands, RestLeft, NoneLeft, Mend, Before}
+use Rattle.model.proofs.Finding.{behinds, find-past, find-at}
+use Rattle.model.proofs.Mending.{NoFree, Last, last-of, Stands, Mend, Before}
 use Rattle.find.specs.declared.Block as seen
 use Rattle.links.specs.Links.{BackRoom}
 use Rattle.find.specs.Find.{BlockFound}

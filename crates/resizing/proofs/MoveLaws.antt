@@ -1,39 +1,28 @@
 -- A record moves: room is allocated, its bytes are copied there, and the old place is given back.
-use Prim.Native.Nat.{ℕ, _+_, _-_, _*_, _≤_, _<_, min}
+use Prim.Native.Nat.{ℕ, min}
 use mathlib.Core.Path.{_≡_, refl, sym, ap, subst, _∙_}
-use mathlib.Core.Bool.{Bool, true, false}
-use mathlib.Core.List.{List, _∷_}
-use mathlib.Core.Logic.{_⊎_, inl, inr, ⊎-elim}
+use mathlib.Core.List.{List}
+use mathlib.Core.Logic.{inl, inr, ⊎-elim}
 use mathlib.Core.Option.{Option, none, some}
 use native.Mathlib.Omega.{arith}
 use lib.ListN.{length}
 use Rattle.words.specs.Copy.{copied, Room}
-use Rattle.words.proofs.WordLaws.{Bytes}
 use Rattle.model.specs.declared.Address.{Address}
-use Rattle.model.specs.Shape.{wide, endOf, classOf, holds, offsetOf, itemAt, addressOf}
+use Rattle.model.specs.Shape.{wide, endOf}
 use Rattle.model.specs.Layout.{Layout}
-use Rattle.model.specs.Sound.{Here, Sound}
-use Rattle.model.specs.Rules.{Spot, Made, Found, block, thing, nothing, find, allocate, capacity, stays, freed}
-use Rattle.model.specs.Refusals.{notLive, noRoom}
-use Rattle.model.specs.Calls.{Outcome, refused, granted, found, drawn, without, moved, resized}
-use Rattle.model.specs.Live.{_∈_, Payload, live}
-use Rattle.model.proofs.Pictures.{length-draw}
-use Rattle.model.proofs.Finding.{item-found}
+use Rattle.model.specs.Sound.{Here}
+use Rattle.model.specs.Rules.{Made, find, allocate, capacity}
+use Rattle.model.specs.Calls.{drawn}
+use Rattle.model.specs.Live.{_∈_, live}
 use Rattle.model.proofs.Payloads.{in-area}
 use Rattle.model.proofs.Allocation.{Granted, even-wide, allocate-grants}
-use Rattle.model.proofs.Moving.{payloadOf, found-live, live-apart, copied-here, item-again}
-use Rattle.model.proofs.Resizing.{item-stays, item-moves, small-moves}
+use Rattle.model.proofs.Moving.{payloadOf, found-live, live-apart, copied-here}
 use Rattle.find.specs.declared.Block as seen
 use Rattle.engine.specs.declared.allocate.Taken.{Taken}
 use Rattle.engine.specs.declared.allocate.Taken.the-variants.{At, NoRoom}
-use Rattle.resizing.specs.declared.resize.Resized.{Resized}
 use Rattle.resizing.specs.declared.resize.Resized.the-variants as to
-use Rattle.engine.specs.Ready.{Ready}
-use Rattle.engine.specs.Allocate.{Asked, takenOf, bytesOf, layoutOf, Gives, Allocates}
-use Rattle.engine.specs.Items.{ItemLive, GaveItem}
-use Rattle.engine.specs.Free.{freedBytes, Freed}
-use Rattle.resizing.specs.Move.{Holding, carriedBytes, CarriedIn, Carried, ItemAt, BlockAt, outcomeOf, Moves, Resizes}
-use Rattle.resizing.proofs.ReshapeLaws.{drawn-same}
+use Rattle.engine.specs.Allocate.{Asked, takenOf, Allocates}
+use Rattle.resizing.specs.Move.{Holding, Carried}
 
 -- what an answer says of the rule
 not-both : (x : Address) → NoRoom ≡ At x → ⊥

@@ -1,10 +1,10 @@
 -- A block is resized where it stands: what is read around it, and what is written for it.
-use Prim.Native.Nat.{ℕ, _+_, _-_, _%_, _^_, _≤_, _<_}
+use Prim.Native.Nat.{ℕ, _+_, _-_, _≤_, _<_}
 use mathlib.Core.Path.{_≡_, refl, sym, ap, subst, _∙_}
-use mathlib.Core.Bool.{Bool, true, false}
+use mathlib.Core.Bool.{true, false}
 use mathlib.Core.List.{List, [], _∷_, _++_}
 use mathlib.Core.Logic.{_⊎_, inl, inr, ⊎-elim}
-use mathlib.Core.Option.{Option, none, some}
+use mathlib.Core.Option.{some}
 use native.Mathlib.Omega.{arith}
 use native.Mathlib.Decide.{decLe}
 use lib.ListN.{length}
@@ -13,11 +13,11 @@ use Rattle.words.proofs.WordLaws.{Bytes}
 use Rattle.model.specs.Shape.{wide, endOf, needOf}
 use Rattle.model.specs.Picture.{draw}
 use Rattle.model.specs.Layout.{variable, Block, used, Layout, useSize, useWords, words}
-use Rattle.model.specs.Sound.{Valid, Here}
+use Rattle.model.specs.Sound.{Here}
 use Rattle.model.specs.Rules.{Spot, block, stays}
 use Rattle.model.specs.Calls.{drawn}
 use Rattle.model.proofs.Pictures as pictures
-use Rattle.model.proofs.Middle.{linkOf, backOf, putIf, Middle, middle-at, next-in, end-le}
+use Rattle.model.proofs.Middle.{linkOf, backOf, putIf, Middle, middle-at, next-in}
 use Rattle.model.proofs.Drawn.{drawn-here}
 use Rattle.model.proofs.Taken.{takes, parts, restAt, takes-of}
 use Rattle.model.proofs.Replace.{three}

@@ -10,14 +10,14 @@ use Rattle.words.specs.Copy.{copied}
 use Rattle.words.proofs.WordLaws.{Bytes}
 use Rattle.model.specs.declared.Address.{Address}
 use Rattle.model.specs.declared.Position.{Position}
-use Rattle.model.specs.Shape.{wide, endOf, classOf, offsetOf, itemAt, addressOf}
+use Rattle.model.specs.Shape.{wide, endOf, classOf, offsetOf}
 use Rattle.model.specs.Layout.{Layout}
-use Rattle.model.specs.Sound.{Here, Sound}
+use Rattle.model.specs.Sound.{Here}
 use Rattle.model.specs.Rules.{Spot, Made, Found, block, thing, nothing, find, allocate, capacity, stays, freed}
 use Rattle.model.specs.Refusals.{notLive, noRoom}
 use Rattle.model.specs.Calls.{Outcome, refused, granted, found, drawn, without, moved, resized, made}
 use Rattle.model.proofs.Finding.{item-found}
-use Rattle.model.proofs.Moving.{payloadOf, taken-large, item-again}
+use Rattle.model.proofs.Moving.{taken-large, item-again}
 use Rattle.model.proofs.Resizing.{item-stays, item-moves, small-moves}
 use Rattle.find.specs.declared.Block.{Block}
 use Rattle.find.specs.declared.Live.{Live}
@@ -27,13 +27,13 @@ use Rattle.engine.specs.declared.allocate.Taken.the-variants.{At, NoRoom}
 use Rattle.resizing.specs.declared.resize.Resized.{Resized}
 use Rattle.resizing.specs.declared.resize.Resized.the-variants as to
 use Rattle.engine.specs.Ready.{Ready}
-use Rattle.find.specs.Find.{BlockFound, Finds}
-use Rattle.engine.specs.Allocate.{Asked, takenOf, layoutOf}
+use Rattle.find.specs.Find.{Finds}
+use Rattle.engine.specs.Allocate.{Asked}
 use Rattle.engine.specs.Items.{ItemLive, GaveItem}
 use Rattle.engine.specs.Release.{BlockLive}
 use Rattle.engine.specs.Free.{freedBytes, Freed}
-use Rattle.resizing.specs.Resize.{isStaying, stayedBytes, Stays, Reshaped}
-use Rattle.resizing.specs.Move.{Holding, CarriedIn, Carried, ItemAt, BlockAt, outcomeOf, Moves, Resizes}
+use Rattle.resizing.specs.Resize.{Stays, Reshaped}
+use Rattle.resizing.specs.Move.{Holding, Carried, ItemAt, BlockAt, outcomeOf, Moves, Resizes}
 use Rattle.resizing.proofs.ReshapeLaws.{drawn-same}
 use Rattle.resizing.proofs.MoveLaws.{taken-none, taken-some, old-live}
 

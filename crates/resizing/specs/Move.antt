@@ -3,7 +3,6 @@ use Prim.Native.Nat.{ℕ, _≤_, min}
 use mathlib.Core.Path.{_≡_}
 use mathlib.Core.List.{List}
 use mathlib.Core.Option.{Option, none, some}
-use lib.ListN.{length}
 use Rattle.words.specs.Copy.{copied}
 use Rattle.model.specs.Shape.{wide, offsetOf}
 use Rattle.model.specs.Layout.{Layout}
