@@ -9,19 +9,27 @@ SEED ?= 1
 
 LIBRARY = target/staticlib/libhost.a
 
-.PHONY: test run lib compare compare-twin bench
+.PHONY: test run lib example compare compare-twin bench
 
 # The last step is the gate: its last line, 'N passed, 0 failed', is the last line of all.
-test: compare
+test: compare example
 	rt ci
 
+# The call-list program, proved and then run on document 01's example, or on the list that LIST names.
 run:
-	@echo "Jagwibodu: the call-list program is not built yet. What there is: the definitions of document 01's heap,"
-	@echo "their laws, and the call initialise. 'make test' proves them."
+	@mkdir -p target
+	@rt check calls > target/run.log 2>&1 || { cat target/run.log; exit 1; }
+	@tail -n 1 target/run.log
+	@tools/chost -r target/bin/calls < $(or $(LIST),crates/calls/stdin)
 
 # The archive for C, in target/staticlib.
 lib:
 	rt staticlib host
+
+# The example host in C: built, run, and its output compared.
+example: lib
+	CFLAGS=-Iinclude tools/chost examples/console.c $(LIBRARY) > target/console.out
+	diff examples/console.out target/console.out && cat target/console.out
 
 # Long random runs, and damaged heaps, of the library against the second program.
 compare: lib

@@ -1,12 +1,13 @@
 -- What a call of a run answers and leaves is what the rules say of its heap's layout, and the layout that is left is that of the bytes.
 use Prim.Native.Nat.{ℕ, _≤_}
-use mathlib.Core.Path.{_≡_, refl, sym, ap, subst}
+use mathlib.Core.Path.{_≡_, refl, sym, ap, subst, _∙_}
 use mathlib.Core.List.{List}
 use mathlib.Core.Option.{Option, none, some}
 use native.Mathlib.Omega.{arith}
 use native.Mathlib.Decide.{decLe}
 use lib.ListN.{length}
 use borrow.Author.Tests.{le-leb, lt-leb}
+use Rattle.words.proofs.WordLaws.{Bytes}
 use Rattle.model.specs.Shape.{wide, endOf}
 use Rattle.model.specs.Layout.{Layout, words}
 use Rattle.model.specs.Sound.{Valid, Here}
@@ -14,19 +15,22 @@ use Rattle.model.specs.Rules.{Made, Found, block, thing, nothing, allocate, fin
 use Rattle.model.specs.Refusals.{notLive}
 use Rattle.model.specs.Calls.{Outcome, refused, granted, Lent, drawn, sized, found, allocated, without}
 use Rattle.model.specs.Promises.{Call, initialising, checking, allocating, freeing, resizing, Comes, Plain}
-use Rattle.model.proofs.Pictures.{length-draw}
+use Rattle.model.proofs.Pictures as pictures
+use Rattle.model.proofs.Pictures.{length-draw, bytes-draw}
 use Rattle.model.proofs.Drawn.{drawn-here}
 use Rattle.model.proofs.LiveFound.{isThere}
 use Rattle.model.proofs.FreeLives.{freed-removes}
 use Rattle.model.proofs.Allocation.{even-wide, allocate-grants}
 use Rattle.model.proofs.OnLayouts.{Done, doing}
 
--- an outcome is what was done on the layout
-pub record Does (b : List ℕ) (r : Outcome) (d : Done) : Type 0 where
+-- an outcome is what was done on the layout; where that stays, so does every byte
+pub record Does (b : List ℕ) (L : Layout) (r : Outcome) (d : Done) : Type 0 where
   pub refusal : r .refusal ≡ d .refusal
   pub address : r .address ≡ d .address
   pub same : length (r .heap) ≡ length b
   pub here : Here wide (r .heap) (d .layout)
+  pub bytes : Bytes b → Bytes (r .heap)
+  pub still : d .layout ≡ L → Bytes b → r .heap ≡ b
 
 module _ (b : List ℕ) (L : Layout) (l : Lent wide b) (h : Here wide b L) where
   -- a valid layout drawn is the heap's
@@ -36,34 +40,48 @@ module _ (b : List ℕ) (L : Layout) (l : Lent wide b) (h : Here wide b L) where
   pub drawn-length : (M : Layout) → length (drawn wide M b) ≡ length b
   drawn-length M = length-draw 8 (words wide (endOf (length b)) M) b
 
-  allocating-does : (n : ℕ) → Does b (sized wide n b (allocated wide b n L)) (doing wide (allocating n) L)
+  pub drawn-bytes : (M : Layout) → Bytes b → Bytes (drawn wide M b)
+  drawn-bytes M = bytes-draw 8 (words wide (endOf (length b)) M) b
+
+  -- the heap's own layout drawn changes nothing
+  pub redrawn : (M : Layout) → M ≡ L → Bytes b → drawn wide M b ≡ b
+  redrawn M e k = ap (λ (N : Layout). drawn wide N b) e ∙ sym (pictures.drawn 8 (words wide (endOf (length b)) L) b b k refl (h .shown) (λ i l o. refl))
+
+  -- what is done where nothing is written, and where a valid layout is drawn
+  pub left : (k a : ℕ) → Does b L (record { refusal = k; address = a; heap = b }) (record { refusal = k; address = a; layout = L })
+  left k a = record { refusal = refl; address = refl; same = refl; here = h; bytes = λ x. x; still = λ e x. refl }
+
+  pub drew : (a : ℕ) (M : Layout) → Valid wide (endOf (length b)) M → Does b L (granted a (drawn wide M b)) (record { refusal = 0; address = a; layout = M })
+  drew a M v = record { refusal = refl; address = refl; same = drawn-length M; here = draws M v; bytes = drawn-bytes M; still = redrawn M }
+
+  allocating-does : (n : ℕ) → Does b L (sized wide n b (allocated wide b n L)) (doing wide (allocating n) L)
   unfolding doing
   allocating-does n = go (decLe 1 n) (decLe n 1048576) (allocate wide n L) refl
     where
-      go : Dec (1 ≤ n) → Dec (n ≤ 1048576) → (o : Option Made) → allocate wide n L ≡ o → Does b (sized wide n b (allocated wide b n L)) (doing wide (allocating n) L)
-      go (no i) j o e = rw (lt-leb 1 n (omega arith)) (record { refusal = refl; address = refl; same = refl; here = h })
-      go (yes i) (no j) o e = rw (le-leb 1 n i, lt-leb n 1048576 (omega arith)) (record { refusal = refl; address = refl; same = refl; here = h })
-      go (yes i) (yes j) none e = rw (le-leb 1 n i, le-leb n 1048576 j, e) (record { refusal = refl; address = refl; same = refl; here = h })
+      go : Dec (1 ≤ n) → Dec (n ≤ 1048576) → (o : Option Made) → allocate wide n L ≡ o → Does b L (sized wide n b (allocated wide b n L)) (doing wide (allocating n) L)
+      go (no i) j o e = rw (lt-leb 1 n (omega arith)) (left _ _)
+      go (yes i) (no j) o e = rw (le-leb 1 n i, lt-leb n 1048576 (omega arith)) (left _ _)
+      go (yes i) (yes j) none e = rw (le-leb 1 n i, le-leb n 1048576 j, e) (left _ _)
       go (yes i) (yes j) (some m) e =
           let g = allocate-grants wide (endOf (length b)) n even-wide L m (h .valid) i e in
-          rw (le-leb 1 n i, le-leb n 1048576 j, e) (record { refusal = refl; address = refl; same = drawn-length (m .layout); here = draws (m .layout) (g .valid) })
+          rw (le-leb 1 n i, le-leb n 1048576 j, e) (drew _ (m .layout) (g .valid))
 
   freed-valid : (a : ℕ) (f : Found) → find wide a L ≡ f → isThere f ≡ 1 → Valid wide (endOf (length b)) (freed wide f L)
   freed-valid a f e i = freed-removes wide (omega arith) (omega arith) (h .valid) a f e (λ n. omega (arith, i, ap isThere n)) .valid
 
-  freeing-does : (a : ℕ) → Does b (found wide (find wide a L) (refused b notLive) (granted 0 (drawn wide (without wide a L) b))) (doing wide (freeing a) L)
+  freeing-does : (a : ℕ) → Does b L (found wide (find wide a L) (refused b notLive) (granted 0 (drawn wide (without wide a L) b))) (doing wide (freeing a) L)
   unfolding doing
   freeing-does a = go (find wide a L) refl
     where
-      go : (f : Found) → find wide a L ≡ f → Does b (found wide (find wide a L) (refused b notLive) (granted 0 (drawn wide (without wide a L) b))) (doing wide (freeing a) L)
-      go nothing e = rw e (record { refusal = refl; address = refl; same = refl; here = h })
-      go (block t) e = rw e (record { refusal = refl; address = refl; same = drawn-length (freed wide (block t) L); here = draws (freed wide (block t) L) (freed-valid a (block t) e refl) })
-      go (thing o c) e = rw e (record { refusal = refl; address = refl; same = drawn-length (freed wide (thing o c) L); here = draws (freed wide (thing o c) L) (freed-valid a (thing o c) e refl) })
+      go : (f : Found) → find wide a L ≡ f → Does b L (found wide (find wide a L) (refused b notLive) (granted 0 (drawn wide (without wide a L) b))) (doing wide (freeing a) L)
+      go nothing e = rw e (left _ _)
+      go (block t) e = rw e (drew _ (freed wide (block t) L) (freed-valid a (block t) e refl))
+      go (thing o c) e = rw e (drew _ (freed wide (thing o c) L) (freed-valid a (thing o c) e refl))
 
-  does-same : (r o : Outcome) (d : Done) → r ≡ o → Does b o d → Does b r d
-  does-same r o d e x = subst (λ (y : Outcome). Does b y d) (sym e) x
+  pub does-same : (r o : Outcome) (d : Done) → r ≡ o → Does b L o d → Does b L r d
+  does-same r o d e x = subst (λ (y : Outcome). Does b L y d) (sym e) x
 
-  pub answers : (q : Call) → Plain wide q → (r : Outcome) → Comes wide b q r → Does b r (doing wide q L)
+  pub answers : (q : Call) → Plain wide q → (r : Outcome) → Comes wide b q r → Does b L r (doing wide q L)
   unfolding Comes
   answers initialising p r c = absurd p
   answers checking p r c = absurd p

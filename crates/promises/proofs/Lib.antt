@@ -14,3 +14,5 @@ pub mod ResizeKept
 pub mod StaysSound
 pub mod NoRoomExact
 pub mod Longer
+pub mod Doing
+pub mod FiguresOfCalls

@@ -1,12 +1,14 @@
 -- A record that moves: allocate, copy, free the old. What the three leave, one after the other.
-use Prim.Native.Nat.{ℕ, _+_, _≤_, _<_, min}
-use mathlib.Core.Path.{_≡_, refl, sym, ap, _∙_}
+use Prim.Native.Nat.{ℕ, _+_, _-_, _≤_, _<_, min}
+use mathlib.Core.Path.{_≡_, refl, sym, ap, subst, _∙_}
 use mathlib.Core.List.{List}
 use mathlib.Core.Logic.{inl, inr, ⊎-elim}
 use mathlib.Core.Option.{some}
 use native.Mathlib.Omega.{arith}
 use lib.ListN.{length, getD, take, drop}
+use native.Mathlib.Decide.{decLe, decLt}
 use Rattle.words.specs.Copy.{copied}
+use Rattle.words.proofs.WordLaws.{Bytes}
 use Rattle.words.proofs.CopyLaws.{part-agree, length-copied, copied-in, copied-out}
 use Rattle.model.specs.Shape.{wide, endOf}
 use Rattle.model.specs.Layout.{Layout}
@@ -18,7 +20,7 @@ use Rattle.model.specs.Promises.{Kept, OnlyNew}
 use Rattle.model.proofs.Payloads.{in-area, content-kept}
 use Rattle.model.proofs.Allocation.{even-wide, Granted, allocate-grants}
 use Rattle.model.proofs.Written.{kept-here}
-use Rattle.promises.proofs.Answers.{draws, drawn-length}
+use Rattle.promises.proofs.Answers.{Does, draws, drawn-length, drawn-bytes}
 use Rattle.model.proofs.LiveFound.{isThere, live-found, live-apart}
 use Rattle.model.proofs.FreeLives.{Removed, freed-removes}
 use Rattle.promises.proofs.Parts.{take-take, part-moved}
@@ -97,6 +99,16 @@ module _ (b : List ℕ) (L : Layout) (l : Lent wide b) (h : Here wide b L) (a n 
   pub moved-here : Here wide (drawn wide (without wide a (m .layout)) copiedBytes) (without wide a (m .layout))
   moved-here = draws copiedBytes K copied-lent copied-here (without wide a K) (gone .valid)
 
+  moved-bytes : Bytes b → Bytes (drawn wide (without wide a (m .layout)) copiedBytes)
+  moved-bytes k = drawn-bytes copiedBytes K copied-lent copied-here (without wide a K) (λ i. at i (decLe (m .at) i) (decLt i (m .at + count)))
+    where
+      at : (i : ℕ) → Dec (m .at ≤ i) → Dec (i < m .at + count) → getD copiedBytes i 0 < 256
+      at i (yes x) (yes y) =
+          let e : m .at + (i - m .at) ≡ i = omega (arith, x) in
+          subst (λ (j : ℕ). getD copiedBytes j 0 < 256) e (rw (copied-in grownBytes a (m .at) count old-area new-area (i - m .at) (omega (arith, x, y))) (drawn-bytes b L l h K k (a + (i - m .at))))
+      at i (yes x) (no y) = rw (copied-out grownBytes a (m .at) count old-area new-area i (λ _ q. y q)) (drawn-bytes b L l h K k i)
+      at i (no x) d = rw (copied-out grownBytes a (m .at) count old-area new-area i (λ q _. x q)) (drawn-bytes b L l h K k i)
+
   -- what is live elsewhere stays
   still : (x : Payload) → x ∈ live wide K → (x .address ≡ a → ⊥) → x ∈ live wide (without wide a K)
   still x k o = ⊎-elim (λ i. i) (λ e. absurd (o (ap (λ (y : Payload). y .address) e ∙ gone .at))) (gone .adds .only x k)
@@ -116,6 +128,22 @@ module _ (b : List ℕ) (L : Layout) (l : Lent wide b) (h : Here wide b L) (a n 
   -- the new record is live, with the old one's beginning
   new-still : new .payload ∈ live wide (without wide a K)
   new-still = still (new .payload) (new .adds .there) (λ e. new .adds .new (was .payload) (was .adds .there) (was .at ∙ sym e))
+
+  -- so the layout is another
+  moved-elsewhere : without wide a (m .layout) ≡ L → ⊥
+  moved-elsewhere e = new .adds .new (new .payload) (subst (λ (N : Layout). new .payload ∈ live wide N) e new-still) refl
+
+  -- what is done
+  pub moved-does : Does b L (granted (m .at) (drawn wide (without wide a (m .layout)) copiedBytes)) (record { refusal = 0; address = m .at; layout = without wide a (m .layout) })
+  moved-does =
+      record {
+        refusal = refl;
+        address = refl;
+        same = drawn-length copiedBytes K copied-lent copied-here (without wide a K) ∙ copied-length;
+        here = moved-here;
+        bytes = moved-bytes;
+        still = λ e x. absurd (moved-elsewhere e);
+      }
 
   beginning : (x : Payload) → x ∈ live wide L → x .address ≡ a
       → take (min (x .size) n) (content (drawn wide (without wide a K) copiedBytes) (new .payload)) ≡ take (min (x .size) n) (content b x)

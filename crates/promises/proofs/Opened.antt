@@ -6,7 +6,7 @@ use native.Mathlib.Omega.{arith}
 use native.Mathlib.Decide.{ℕ-discrete, decLe}
 use lib.ListN.{length}
 use Rattle.words.specs.Word.{wordAt, put}
-use Rattle.words.proofs.WordLaws.{length-put, word-same}
+use Rattle.words.proofs.WordLaws.{Bytes, length-put, bytes-put, word-same}
 use Rattle.model.specs.Shape.{wide, endOf}
 use Rattle.model.specs.Picture.{draw}
 use Rattle.model.specs.Layout.{words}
@@ -14,7 +14,7 @@ use Rattle.model.specs.Sound.{Here}
 use Rattle.model.specs.Rules.{fresh}
 use Rattle.model.specs.Calls.{Outcome, Lent, Opened, drawn, Initialises}
 use Rattle.model.specs.Promises.{OpensSound}
-use Rattle.model.proofs.Pictures.{length-draw}
+use Rattle.model.proofs.Pictures.{length-draw, bytes-draw}
 use Rattle.model.proofs.Fresh.{fresh-here}
 
 -- what a granted initialise leaves
@@ -22,6 +22,7 @@ pub record Fresh (b : List ℕ) (r : Outcome) : Type 0 where
   pub lent : Lent wide b
   pub same : length (r .heap) ≡ length b
   pub here : Here wide (r .heap) (fresh wide (endOf (length b)))
+  pub bytes : Bytes b → Bytes (r .heap)
 
 module _ (b : List ℕ) (r : Outcome) (c : Initialises wide b r) (g : r .refusal ≡ 0) where
   fresh-of : Lent wide b → (Opened wide b → ⊥) → Fresh b r
@@ -37,6 +38,7 @@ module _ (b : List ℕ) (r : Outcome) (c : Initialises wide b r) (g : r .refusal
         lent = l;
         same = ap length e ∙ length-draw 8 (words wide (endOf (length d)) (fresh wide (endOf (length b)))) d ∙ k;
         here = subst (λ (x : List ℕ). Here wide x (fresh wide (endOf (length b)))) (sym e) m;
+        bytes = λ x. subst (λ (y : List ℕ). Bytes y) (sym e) (bytes-draw 8 (words wide (endOf (length d)) (fresh wide (endOf (length b)))) d (bytes-put 8 b 0 (wide .magic) x));
       }
 
   pub opened-fresh : Fresh b r

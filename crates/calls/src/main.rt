@@ -1,0 +1,4 @@
+// The call-list program, on document 01's example.
+fn main() {
+    listing::run();
+}
