@@ -12,6 +12,7 @@
 
 #define LONGEST 1048576
 
+uint64_t heap_initialise(uint8_t *h, size_t n);
 uint64_t heap_check(uint8_t *h, size_t n);
 uint64_t heap_allocate(uint8_t *h, size_t n, uint64_t size);
 uint64_t heap_resize(uint8_t *h, size_t n, uint64_t address, uint64_t size);
@@ -69,6 +70,12 @@ static void measure(const char *call, uint64_t address, uint64_t size)
 {
     (void)address; /* a library with few calls has no use for these */
     (void)size;
+#ifdef HAVE_INITIALISE
+    if (!strcmp(call, "initialise")) {
+        BOTH(heap_initialise(ours, length), twin_initialise(twins, length));
+        return;
+    }
+#endif
 #ifdef HAVE_CHECK
     if (!strcmp(call, "check")) {
         BOTH(heap_check(ours, length), twin_check(twins, length));

@@ -3,7 +3,8 @@
 
   table.py --library FILE.. [--prefix NAME] [--calls LIST] [--sizes LIST]
 
-Prints a Markdown table; the status is 1 if a count is over its limit. All that
+Prints a Markdown table, how each count grows with the heap, and the library's
+size; the status is 1 if a count is over its limit. All that
 is built or fetched goes below target/. "--prefix twin_" without a library puts
 the twin on both sides.
 """
@@ -20,7 +21,7 @@ sys.dont_write_bytecode = True  # products belong below target/
 from second import CLASSES, NO_ROOM, VARIABLE, Heap  # noqa: E402
 
 PRODUCTS = os.path.join(ROOT, "target", "bench")
-CALLS = ("check", "allocate", "resize", "free")
+CALLS = ("initialise", "check", "allocate", "resize", "free")
 SIZES = (10000, 65536, 1048576)
 
 
@@ -178,16 +179,33 @@ def count(program, path, call, address, size):
     return regions[0], regions[1]
 
 
+def saved(name, data):
+    path = os.path.join(PRODUCTS, name)
+    with open(path, "wb") as file:
+        file.write(data)
+    return path
+
+
 def rows(program, have, sizes):
+    """(length, kind of heap, name of the call, ours, the twin's)"""
     for length in sizes:
+        if "initialise" in have:
+            yield length, "not opened", "initialise", *count(program, saved("zeros.heap", bytes(length)), "initialise", 0, 0)
         for kind, make in KINDS.items():
             heap = make(length)
-            path = os.path.join(PRODUCTS, f"{kind.replace(' ', '-')}-{length}.heap")
-            with open(path, "wb") as file:
-                file.write(heap.data)
+            path = saved(f"{kind.replace(' ', '-')}-{length}.heap", heap.data)
             for name, call, address, size in calls_on(heap):
                 if call in have:
-                    yield f"{length:,}, {kind}", name, *count(program, path, call, address, size)
+                    yield length, kind, name, *count(program, path, call, address, size)
+
+
+def print_growth(counts):
+    """Ours on the longest heap against the next shorter one, of the same kind."""
+    print("\n| heap | call | from | to | heap grows | call grows |\n|---|---|---:|---:|---:|---:|")
+    for (kind, name), by_length in counts.items():
+        if len(by_length) > 1:
+            short, long = sorted(by_length)[-2:]
+            print(f"| {kind} | {name} | {short:,} | {long:,} | {long / short:.1f} | {by_length[long] / by_length[short]:.1f} |")
 
 
 def options():
@@ -205,12 +223,16 @@ def main():
     os.makedirs(PRODUCTS, exist_ok=True)
     program = build(chosen.library, chosen.prefix, have)
     print("| heap | call | ours | twin | ratio | limit | |\n|---|---|---:|---:|---:|---:|---|")
-    over = 0
-    for heap, name, ours, twin in rows(program, have, map(int, chosen.sizes.split(","))):
+    over, counts = 0, {}
+    for length, kind, name, ours, twin in rows(program, have, map(int, chosen.sizes.split(","))):
         kept = ours <= limit(twin)
         over += not kept
-        print(f"| {heap} | {name} | {ours:,} | {twin:,} | {ours / twin:.2f} | {limit(twin):,.0f} | "
+        counts.setdefault((kind, name), {})[length] = ours
+        print(f"| {length:,}, {kind} | {name} | {ours:,} | {twin:,} | {ours / twin:.2f} | {limit(twin):,.0f} | "
               f"{'ok' if kept else 'OVER'} |", flush=True)
+    print_growth(counts)
+    for library in chosen.library:
+        print(f"\n{os.path.basename(library)}: {os.path.getsize(library):,} bytes")
     return 1 if over else 0
 
 
