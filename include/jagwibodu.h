@@ -3,7 +3,7 @@
    Each call takes the buffer and its length in bytes, 344 to 1,048,576, the same length every time. It answers one
    number, refusal * 2^32 + address: refusal 0 means granted, and the address is a position in the buffer, 0 where the
    call gives none. Every call checks the whole heap first. A refused call leaves every byte as it was. Calls are safe
-   for all bytes, addresses and sizes; they need no more than 17 KiB of stack and use nothing but the buffer. */
+   for all bytes, addresses and sizes; they need no more than 17 KiB of stack, and nothing but the buffer and memset. */
 #ifndef JAGWIBODU_H
 #define JAGWIBODU_H
 
