@@ -2,6 +2,7 @@
    region 0 is ours, region 1 is the twin's. Both must answer alike and leave the same bytes.
      bench HEAP-FILE CALL ADDRESS SIZE      (a number that the call does not take is 0)
    HAVE_CHECK and the like say which calls the library has. */
+#include "../include/jagwibodu.h"
 #include "twin.h"
 
 #include <count.h>
@@ -11,12 +12,6 @@
 #include <string.h>
 
 #define LONGEST 1048576
-
-uint64_t heap_initialise(uint8_t *h, size_t n);
-uint64_t heap_check(uint8_t *h, size_t n);
-uint64_t heap_allocate(uint8_t *h, size_t n, uint64_t size);
-uint64_t heap_resize(uint8_t *h, size_t n, uint64_t address, uint64_t size);
-uint64_t heap_free(uint8_t *h, size_t n, uint64_t address);
 
 static _Alignas(64) uint8_t image[LONGEST];
 static _Alignas(64) uint8_t ours[LONGEST];

@@ -43,32 +43,28 @@ def nearly_empty(length):
     return heap
 
 
-def full_of_blocks(length):
-    """Blocks of mixed sizes above 256; about a third is freed in scattered order."""
-    rng, heap, blocks = random.Random(1), fresh(length), []
-    heap.allocate(40)
+def filled(length, first, size, part):
+    """A record, then records until there is no room; one of so many is freed, in scattered order."""
+    rng, heap, records = random.Random(1), fresh(length), []
+    heap.allocate(first)
     while True:
-        refusal, address = heap.allocate(rng.randint(257, 900))
+        refusal, address = heap.allocate(size(rng))
         if refusal == NO_ROOM:
             break
-        blocks.append(address)
-    for address in rng.sample(blocks, len(blocks) // 3):
+        records.append(address)
+    for address in rng.sample(records, len(records) // part):
         heap.free(address)
     return heap
+
+
+def full_of_blocks(length):
+    """An item, and then blocks of mixed sizes above 256; a third of them is freed."""
+    return filled(length, 40, lambda rng: rng.randint(257, 900), 3)
 
 
 def full_of_items(length):
-    """A block, and then items of the smallest class; half of them are freed in scattered order."""
-    rng, heap, items = random.Random(1), fresh(length), []
-    heap.allocate(600)
-    while True:
-        refusal, address = heap.allocate(8)
-        if refusal == NO_ROOM:
-            break
-        items.append(address)
-    for address in rng.sample(items, len(items) // 2):
-        heap.free(address)
-    return heap
+    """A block, and then items of the smallest class; half of them is freed."""
+    return filled(length, 600, lambda rng: 8, 2)
 
 
 KINDS = {"nearly empty": nearly_empty, "full of blocks": full_of_blocks, "full of items": full_of_items}

@@ -255,7 +255,7 @@ static bool is_sound(const uint8_t *h, uint64_t end)
     return marks.count == 0;
 }
 
-uint64_t twin_check(uint8_t *h, size_t n)
+uint64_t twin_check(const uint8_t *h, size_t n)
 {
     if (n < SHORTEST || n > LONGEST)
         return refuse(BAD_LENGTH);

@@ -7,7 +7,7 @@
 #include <stdint.h>
 
 uint64_t twin_initialise(uint8_t *h, size_t n);
-uint64_t twin_check(uint8_t *h, size_t n);
+uint64_t twin_check(const uint8_t *h, size_t n);
 uint64_t twin_allocate(uint8_t *h, size_t n, uint64_t size);
 uint64_t twin_resize(uint8_t *h, size_t n, uint64_t address, uint64_t size);
 uint64_t twin_free(uint8_t *h, size_t n, uint64_t address);

@@ -208,24 +208,24 @@ def lone_free_block_of_24(p):
     p.split(block, (VARIABLE, p.state.blocks[block][1] - 24), (FREE, 24))
 
 
-@way(False)
-def touching_free_blocks(p):
-    block = p.any_block(FREE, 64)
+def cut_a_free_block(p, kind, least):
+    """The low part of a free block becomes a block of this kind and at least this size; the rest stays free."""
+    block = p.any_block(FREE, least + 32)
     if block is None:
         return False
     size = p.state.blocks[block][1]
-    low = 8 * p.rng.randint(4, size // 8 - 4)
-    p.split(block, (FREE, low), (FREE, size - low))
+    low = 8 * p.rng.randint(least // 8, size // 8 - 4)
+    p.split(block, (kind, low), (FREE, size - low))
+
+
+@way(False)
+def touching_free_blocks(p):
+    return cut_a_free_block(p, FREE, 32)
 
 
 @way(True)
 def variable_block_in_a_free_one(p):
-    block = p.any_block(FREE, 280 + 32)
-    if block is None:
-        return False
-    size = p.state.blocks[block][1]
-    low = 8 * p.rng.randint(35, size // 8 - 4)
-    p.split(block, (VARIABLE, low), (FREE, size - low))
+    return cut_a_free_block(p, VARIABLE, 280)
 
 
 # Pages.

@@ -13,6 +13,8 @@
    bytes are FILL until a call changes them.
 
    HAVE_INITIALISE and the like say which calls the library has. */
+#include "../include/jagwibodu.h"
+
 #include <stdint.h>
 #include <stdio.h>
 #include <stdlib.h>
@@ -21,12 +23,6 @@
 #define LONGEST 1048640
 #define GUARD 64
 #define FILL 0xa5
-
-uint64_t heap_initialise(uint8_t *h, size_t n);
-uint64_t heap_check(uint8_t *h, size_t n);
-uint64_t heap_allocate(uint8_t *h, size_t n, uint64_t size);
-uint64_t heap_resize(uint8_t *h, size_t n, uint64_t address, uint64_t size);
-uint64_t heap_free(uint8_t *h, size_t n, uint64_t address);
 
 static _Alignas(8) uint8_t arena[GUARD + 8 + LONGEST + GUARD + 8];
 static _Alignas(8) uint8_t shadow[sizeof arena];
