@@ -138,8 +138,8 @@ static void put_head(uint8_t *h, uint64_t class, uint64_t offset)
     put(h, INDEX_PAGE + 8 * class, offset);
 }
 
-/* The check. The map has one bit for each 8 bytes of the heap; a bit that is set marks a free item that no
-   list has shown yet. */
+/* The check. The map has one bit for each 8 bytes of the heap; a bit that is set marks a free
+   item. The lists have to show as many marked items as there are. */
 
 struct marks {
     uint64_t count;
@@ -217,7 +217,7 @@ static bool blocks_right(const uint8_t *h, uint64_t end, struct marks *marks)
     return next_free == 0;
 }
 
-/* Whether the list of a class visits marked items of that class only; takes their marks away. */
+/* Whether the list of a class visits marked items of that class only, and no more than are left to count; counts them down. */
 static bool list_right(const uint8_t *h, uint64_t end, uint64_t class, struct marks *marks)
 {
     uint64_t offset = head_of(h, class);
@@ -230,11 +230,9 @@ static bool list_right(const uint8_t *h, uint64_t end, uint64_t class, struct ma
             return false;
         uint64_t item = offset + INDEX_PAGE;
         uint64_t header = get(h, item);
-        uint64_t *word = &marks->map[item / 512];
         uint64_t bit = (uint64_t)1 << (item / 8 % 64);
-        if (!(*word & bit) || header % 128 != free)
+        if (!(marks->map[item / 512] & bit) || header % 128 != free || marks->count == 0)
             return false;
-        *word ^= bit;
         marks->count--;
         offset = next_in(header);
     }

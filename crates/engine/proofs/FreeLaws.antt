@@ -4,7 +4,7 @@ use mathlib.Core.Path.{_≡_, sym, ap, subst, _∙_}
 use mathlib.Core.Bool.{true, false}
 use mathlib.Core.List.{List}
 use Rattle.model.specs.declared.Position.{Position}
-use Rattle.model.specs.Shape.{wide}
+use Rattle.model.specs.Shape.{shape}
 use Rattle.model.specs.Layout.{Layout}
 use Rattle.model.specs.Sound.{Here}
 use Rattle.find.specs.declared.Block.{Block}
@@ -16,47 +16,47 @@ use Rattle.engine.specs.Release.{BlockLive, Released}
 use Rattle.engine.specs.Free.{isFound, freedBytes, Freed}
 use Rattle.engine.specs.Ready.{Ready}
 
-module _ (b : List ℕ) (a : ℕ) (k : Ready b) (x : Live) (f : (L : Layout) → Here wide b L → Finds L a x) where
-  found-as : (y : Live) → x ≡ y → (L : Layout) → Here wide b L → Finds L a y
-  found-as y e L h = subst (λ (z : Live). Finds L a z) e (f L h)
+module _ {w : ℕ} (b : List ℕ) (a : ℕ) (k : Ready w b) (x : Live) (f : (L : Layout) → Here (shape w) b L → Finds w L a x) where
+  found-as : (y : Live) → x ≡ y → (L : Layout) → Here (shape w) b L → Finds w L a y
+  found-as y e L h = subst (λ (z : Live). Finds w L a z) e (f L h)
 
-  pub free-none : x ≡ Nothing → Freed b a false b
+  pub free-none : x ≡ Nothing → Freed w b a false b
   unfolding Finds
   free-none e =
       record {
         answer = λ L h. ap isFound (sym (found-as Nothing e L h));
-        bytes = λ L h. ap (freedBytes b L) (sym (found-as Nothing e L h));
+        bytes = λ L h. ap (freedBytes w b L) (sym (found-as Nothing e L h));
         sound = k .sound;
       }
 
   module _ (q : Position) (c : ℕ) (e : x ≡ Item q c) where
-    pub item-live : ItemLive b (q .0) c
+    pub item-live : ItemLive w b (q .0) c
     unfolding Finds
     item-live =
         let g = found-as (Item q c) e (k .sound .layout) (k .sound .here) in
-        record { layout = k .sound .layout; here = k .sound .here; short = k .short; low = g .0; address = a; found = g .1 }
+        record { width = k .width; layout = k .sound .layout; here = k .sound .here; short = k .short; low = g .0; address = a; found = g .1 }
 
-    pub free-item : (d : List ℕ) → GaveItem b (q .0) c d → Freed b a true d
+    pub free-item : (d : List ℕ) → GaveItem w b (q .0) c d → Freed w b a true d
     unfolding Finds
     free-item d g =
         record {
           answer = λ L h. ap isFound (sym (found-as (Item q c) e L h .1));
-          bytes = λ L h. g .draws L a h (found-as (Item q c) e L h .1) ∙ ap (freedBytes b L) (sym (found-as (Item q c) e L h .1));
+          bytes = λ L h. g .draws L a h (found-as (Item q c) e L h .1) ∙ ap (freedBytes w b L) (sym (found-as (Item q c) e L h .1));
           sound = g .sound;
         }
 
   module _ (y : Block) (e : x ≡ Variable y) where
-    pub block-live : BlockLive b y
+    pub block-live : BlockLive w b y
     unfolding Finds
     block-live =
         let g = found-as (Variable y) e (k .sound .layout) (k .sound .here) in
-        record { layout = k .sound .layout; here = k .sound .here; short = k .short; address = a; spot = g .0; found = g .1 }
+        record { width = k .width; layout = k .sound .layout; here = k .sound .here; short = k .short; address = a; spot = g .0; found = g .1 }
 
-    pub free-block : (d : List ℕ) → Released b y d → Freed b a true d
+    pub free-block : (d : List ℕ) → Released w b y d → Freed w b a true d
     unfolding Finds
     free-block d g =
         record {
           answer = λ L h. ap isFound (sym (found-as (Variable y) e L h .1 .found));
-          bytes = λ L h. let w = found-as (Variable y) e L h in g .draws L a (w .0) h (w .1) ∙ ap (freedBytes b L) (sym (w .1 .found));
+          bytes = λ L h. let v = found-as (Variable y) e L h in g .draws L a (v .0) h (v .1) ∙ ap (freedBytes w b L) (sym (v .1 .found));
           sound = g .sound;
         }

@@ -6,7 +6,7 @@ use native.Mathlib.Omega.{arith}
 use lib.ListN.{length, getD}
 use Rattle.words.specs.Word.{wordAt, put}
 use Rattle.words.proofs.WordLaws.{Bytes, word-fits}
-use Rattle.model.specs.Shape.{wide}
+use Rattle.model.specs.Shape.{shape, index, start}
 use Rattle.model.specs.Layout.{Layout, headOf}
 use Rattle.model.specs.Sound.{Here}
 use Rattle.model.specs.Rules.{popped}
@@ -16,36 +16,37 @@ use Rattle.model.proofs.Shown.{head-read}
 use Rattle.model.proofs.Pop.{pop-law}
 use Rattle.model.proofs.PopReads.{first-item, pop-reads}
 use Rattle.engine.specs.Items.{HasItem, TookItem}
+use Rattle.model.proofs.Sizes.{words-fit}
 
 -- an item's header can be read at offset o of bytes b
-pub record ItemThere (b : List ℕ) (c o : ℕ) : Type 0 where
-  pub flag : 4 * c + 1 ≤ wordAt 8 b (48 + o)
-  pub inside : 48 + o + 24 ≤ length b
+pub record ItemThere (w : ℕ) (b : List ℕ) (c o : ℕ) : Type 0 where
+  pub flag : 4 * c + 1 ≤ wordAt w b (index (shape w) + o)
+  pub inside : index (shape w) + o + (8 + 2 * w) ≤ length b
 
-module _ {b : List ℕ} {c : ℕ} (k : HasItem b c) where
-  pub item-long : 312 ≤ length b
-  item-long = here-room wide b (k .sound .layout) (k .sound .here)
+module _ {w : ℕ} {b : List ℕ} {c : ℕ} (k : HasItem w b c) where
+  pub item-long : start (shape w) ≤ length b
+  item-long = here-room (shape w) b (k .sound .layout) (k .sound .here)
 
-  module _ (o : ℕ) (eo : o ≡ wordAt 8 b (48 + 8 * c)) where
-    pub item-there : ItemThere b c o
+  module _ (o : ℕ) (eo : o ≡ wordAt w b (index (shape w) + w * c)) where
+    pub item-there : ItemThere w b c o
     item-there =
-        let f = first-item b (k .sound .layout) (k .sound .here) c (k .class) o eo (λ e. k .some-item (sym eo ∙ e)) in
-        let r = pop-reads b (k .sound .layout) (k .sound .here) c (k .class) o (f .0) (f .1) (k .short) in
+        let f = first-item (k .width) b (k .sound .layout) (k .sound .here) c (k .class) o eo (λ e. k .some-item (sym eo ∙ e)) in
+        let r = pop-reads (k .width) b (k .sound .layout) (k .sound .here) c (k .class) o (f .0) (f .1) (words-fit (k .width) (length b) (k .short)) in
         record { flag = r .flag; inside = r .inside }
 
-    pub item-taken : (head at x next r : ℕ) (h₁ h₂ : List ℕ) → head ≡ 48 + 8 * c → at ≡ 48 + o → x ≡ wordAt 8 b at → next ≡ (x - (4 * c + 1)) / 16
-        → h₁ ≡ put 8 b head next → h₂ ≡ put 8 h₁ at (4 * c + 3) → r ≡ at + 8 → Bytes b → TookItem b c r h₂
+    pub item-taken : (head at x next r : ℕ) (h₁ h₂ : List ℕ) → head ≡ index (shape w) + w * c → at ≡ index (shape w) + o → x ≡ wordAt w b at → next ≡ (x - (4 * c + 1)) / 16
+        → h₁ ≡ put w b head next → h₂ ≡ put w h₁ at (4 * c + 3) → r ≡ at + w → Bytes b → TookItem w b c r h₂
     unfolding headOf
     item-taken head at x next r h₁ h₂ eh ea ex en e₁ e₂ er bytes = record { is = λ L o′ os h is. go L o′ os h is }
       where
-        go : (L : Layout) (o′ : ℕ) (os : List ℕ) → Here wide b L → getD (L .lists) c [] ≡ o′ ∷ os → (r ≡ 48 + o′ + 8) × (h₂ ≡ drawn wide (popped wide c o′ os L) b)
+        go : (L : Layout) (o′ : ℕ) (os : List ℕ) → Here (shape w) b L → getD (L .lists) c [] ≡ o′ ∷ os → (r ≡ index (shape w) + o′ + w) × (h₂ ≡ drawn (shape w) (popped (shape w) c o′ os L) b)
         go L o′ os h is =
-            let same : o ≡ o′ = eo ∙ head-read wide b L h c (k .class) ∙ ap headOf is in
-            let p = pop-reads b L h c (k .class) o′ os is (k .short) in
-            let at-is : at ≡ 48 + o′ = omega arith in
-            let x-is : x ≡ wordAt 8 b (48 + o′) = ex ∙ ap (λ (y : ℕ). wordAt 8 b y) at-is in
+            let same : o ≡ o′ = eo ∙ head-read (shape w) b L h c (k .class) ∙ ap headOf is in
+            let p = pop-reads (k .width) b L h c (k .class) o′ os is (words-fit (k .width) (length b) (k .short)) in
+            let at-is : at ≡ index (shape w) + o′ = omega arith in
+            let x-is : x ≡ wordAt w b (index (shape w) + o′) = ex ∙ ap (λ (y : ℕ). wordAt w b y) at-is in
             let next-is : next ≡ headOf os = en ∙ ap (λ (y : ℕ). (y - (4 * c + 1)) / 16) x-is ∙ p .next in (
               omega arith,
               rw (e₂, e₁, eh, at-is, next-is)
-                  (pop-law wide (omega arith) b L h c o′ os (k .class) is (omega (arith, k .short)) bytes (omega (arith, p .next, word-fits 8 b (48 + o′) bytes)) (omega (arith, k .class))),
+                  (pop-law (shape w) (omega arith) b L h c o′ os (k .class) is (words-fit (k .width) (length b) (k .short)) bytes (omega (arith, p .next, word-fits w b (index (shape w) + o′) bytes)) (omega (arith, k .class, words-fit (k .width) (length b) (k .short)))),
             )

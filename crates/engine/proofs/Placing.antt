@@ -5,7 +5,7 @@ use mathlib.Core.List.{List, []}
 use native.Mathlib.Omega.{arith}
 use lib.ListN.{length}
 use Rattle.words.proofs.WordLaws.{Bytes}
-use Rattle.model.specs.Shape.{wide}
+use Rattle.model.specs.Shape.{shape}
 use Rattle.model.specs.Picture.{draw}
 use Rattle.model.specs.Layout.{variable, Layout, useSize, useWords}
 use Rattle.model.specs.Rules.{Spot}
@@ -18,14 +18,14 @@ use Rattle.engine.specs.declared.blocks.Gap.{Gap}
 use Rattle.engine.specs.Blocks.{GapRead, Needed, lowWords, highWords}
 use Rattle.engine.proofs.Taking.{gap-drawn}
 
-module _ {b : List ℕ} {p need : ℕ} {L : Layout} {t : Spot} (x : SpotIn wide b p need L t) (g : Gap) (r : GapRead b p g) (u : ℕ) (eu : u ≡ takes wide need (g .size)) where
-  u-is : u ≡ takes wide need (t .size)
-  u-is = eu ∙ ap (λ (s : ℕ). takes wide need s) (r .size ∙ size-there wide (spot-middle wide x))
+module _ {w : ℕ} {b : List ℕ} {p need : ℕ} {L : Layout} {t : Spot} (x : SpotIn (shape w) b p need L t) (g : Gap) (r : GapRead w b p g) (u : ℕ) (eu : u ≡ takes (shape w) need (g .size)) where
+  u-is : u ≡ takes (shape w) need (t .size)
+  u-is = eu ∙ ap (λ (s : ℕ). takes (shape w) need s) (r .size ∙ size-there (shape w) (spot-middle (shape w) x))
 
-  pub variable-drawn : Needed (length b) need → Bytes b → (h₁ h₂ : List ℕ) → h₁ ≡ draw 8 (lowWords g u 2) b
-      → h₂ ≡ putIf wide (draw 8 (highWords g u 2) h₁) (g .back) (restAt wide u (g .size) (g .at) (g .prev)) → h₂ ≡ drawn wide (placedIn wide need L t) b
+  pub variable-drawn : Needed w (length b) need → Bytes b → (h₁ h₂ : List ℕ) → h₁ ≡ draw w (lowWords w g u 2) b
+      → h₂ ≡ putIf (shape w) (draw w (highWords w g u 2) h₁) (g .back .0) (restAt (shape w) u (g .size) (g .at .0) (g .prev .0)) → h₂ ≡ drawn (shape w) (placedIn (shape w) need L t) b
   unfolding useWords useSize draw
   variable-drawn n bytes h₁ h₂ e₁ e₂ =
-      let z = takes-of wide need (t .size) (x .split .large) in
-      rw (placed-as wide (x .here .valid) (x .split) (omega arith), ← u-is)
-      (gap-drawn (spot-middle wide x) g r u 2 (variable u) [] refl (omega (arith, u-is, z .within)) refl bytes (n .short) (rw u-is (variable-valid wide (x .here .valid) (x .split) (omega arith) (n .large) (n .eight))) h₁ h₁ h₂ e₁ refl e₂)
+      let z = takes-of (shape w) need (t .size) (x .split .large) in
+      rw (placed-as (shape w) (x .here .valid) (x .split) (omega arith), ← u-is)
+      (gap-drawn (n .width) (spot-middle (shape w) x) g r u 2 (variable u) [] refl (omega (arith, u-is, z .within)) refl bytes (n .short) (rw u-is (variable-valid (shape w) (x .here .valid) (x .split) (omega arith) (n .large) (n .eight))) h₁ h₁ h₂ e₁ refl e₂)

@@ -1,10 +1,10 @@
 -- What allocating promises, past the check: the rule's address and bytes.
-use Prim.Native.Nat.{ℕ, _≤_, _<_}
+use Prim.Native.Nat.{ℕ, _≤_, _<_, _*_}
 use mathlib.Core.Path.{_≡_}
 use mathlib.Core.List.{List, []}
 use mathlib.Core.Option.{Option, none, some}
 use lib.ListN.{getD}
-use Rattle.model.specs.Shape.{wide}
+use Rattle.model.specs.Shape.{shape}
 use Rattle.model.specs.Layout.{Layout}
 use Rattle.model.specs.Sound.{Here}
 use Rattle.model.specs.Rules.{Made, fit, anItem, aBlock, allocate}
@@ -14,40 +14,40 @@ use Rattle.engine.specs.declared.allocate.Taken.{Taken}
 use Rattle.engine.specs.declared.allocate.Taken.the-variants.{At, NoRoom}
 
 -- and a class
-pub record ReadyClass (b : List ℕ) (c : ℕ) : Type 0 where
-  pub ready : Ready b
-  pub class : c < 32
+pub record ReadyClass (w : ℕ) (b : List ℕ) (c : ℕ) : Type 0 where
+  pub ready : Ready w b
+  pub class : c < 4 * w
 
 -- a size that may be asked for
-pub record Asked (n : ℕ) : Type 0 where
+pub record Asked (w : ℕ) (n : ℕ) : Type 0 where
   pub some-byte : 1 ≤ n
-  pub most : n ≤ 1048576
+  pub most : n ≤ shape w .most
 
 -- the answer, the bytes and the layout for what a rule gives
 abbrev pub takenOf : Option Made → Taken
 takenOf none = NoRoom
 takenOf (some m) = At (record { 0 = m .at })
 
-abbrev pub bytesOf : List ℕ → Option Made → List ℕ
-bytesOf b none = b
-bytesOf b (some m) = drawn wide (m .layout) b
+abbrev pub bytesOf : ℕ → List ℕ → Option Made → List ℕ
+bytesOf w b none = b
+bytesOf w b (some m) = drawn (shape w) (m .layout) b
 
 abbrev pub layoutOf : Layout → Option Made → Layout
 layoutOf L none = L
 layoutOf L (some m) = m .layout
 
 -- of bytes b with layout L a rule gives o: the answer r, and bytes c that have the rule's layout
-pub record Gives (b : List ℕ) (L : Layout) (o : Option Made) (r : Taken) (c : List ℕ) : Type 0 where
+pub record Gives (w : ℕ) (b : List ℕ) (L : Layout) (o : Option Made) (r : Taken) (c : List ℕ) : Type 0 where
   pub answer : r ≡ takenOf o
-  pub bytes : c ≡ bytesOf b o
-  pub here : Here wide c (layoutOf L o)
+  pub bytes : c ≡ bytesOf w b o
+  pub here : Here (shape w) c (layoutOf L o)
 
 -- an item of a class; a variable block; allocate
-pub record GivesItem (b : List ℕ) (c : ℕ) (r : Taken) (a : List ℕ) : Type 0 where
-  pub is : (L : Layout) → Here wide b L → Gives b L (anItem wide c L (getD (L .lists) c [])) r a
+pub record GivesItem (w : ℕ) (b : List ℕ) (c : ℕ) (r : Taken) (a : List ℕ) : Type 0 where
+  pub is : (L : Layout) → Here (shape w) b L → Gives w b L (anItem (shape w) c L (getD (L .lists) c [])) r a
 
-pub record GivesBlock (b : List ℕ) (need : ℕ) (r : Taken) (a : List ℕ) : Type 0 where
-  pub is : (L : Layout) → Here wide b L → Gives b L (aBlock wide need L (fit need (L .blocks))) r a
+pub record GivesBlock (w : ℕ) (b : List ℕ) (need : ℕ) (r : Taken) (a : List ℕ) : Type 0 where
+  pub is : (L : Layout) → Here (shape w) b L → Gives w b L (aBlock (shape w) need L (fit need (L .blocks))) r a
 
-pub record Allocates (b : List ℕ) (n : ℕ) (r : Taken) (a : List ℕ) : Type 0 where
-  pub is : (L : Layout) → Here wide b L → Gives b L (allocate wide n L) r a
+pub record Allocates (w : ℕ) (b : List ℕ) (n : ℕ) (r : Taken) (a : List ℕ) : Type 0 where
+  pub is : (L : Layout) → Here (shape w) b L → Gives w b L (allocate (shape w) n L) r a

@@ -1,12 +1,13 @@
 -- What the calls that take a free block ask and promise.
-use Prim.Native.Nat.{ℕ, _+_, _-_, _%_, _^_, _≤_, _<_}
+use Prim.Native.Nat.{ℕ, _+_, _-_, _%_, _^_, _≤_, _<_, _*_}
 use mathlib.Core.Path.{_≡_}
 use mathlib.Core.Bool.{cond}
 use mathlib.Core.List.{List, [], _∷_}
 use lib.ListN.{length}
 use lib.Dec.{ltb}
+use Rattle.words.specs.Width.{Width}
 use Rattle.words.specs.Word.{wordAt}
-use Rattle.model.specs.Shape.{wide, leastTaken}
+use Rattle.model.specs.Shape.{shape, leastTaken}
 use Rattle.model.specs.Picture.{Word}
 use Rattle.model.specs.Layout.{Layout}
 use Rattle.model.specs.Rules.{Spot, placed, asVariable}
@@ -18,47 +19,50 @@ use Rattle.engine.specs.declared.blocks.Gap.{Gap}
 use Rattle.links.specs.Links.{BackRoom, freeWords}
 
 -- a free block stands at p, as far as reading it asks
-pub record GapRoom (b : List ℕ) (p : ℕ) : Type 0 where
-  pub least : 32 ≤ wordAt 8 b p
-  pub inside : p + wordAt 8 b p ≤ length b
-  pub prev-low : wordAt 8 b (p + wordAt 8 b p - 16) + 8 ≤ length b
-  pub behind : BackRoom b (wordAt 8 b (p + 8))
+pub record GapRoom (w : ℕ) (b : List ℕ) (p : ℕ) : Type 0 where
+  pub width : Width w
+  pub least : 4 * w ≤ wordAt w b p
+  pub inside : p + wordAt w b p ≤ length b
+  pub prev-low : wordAt w b (p + wordAt w b p - 2 * w) + w ≤ length b
+  pub behind : BackRoom w b (wordAt w b (p + w))
 
 -- what is read of it
-pub record GapRead (b : List ℕ) (p : ℕ) (g : Gap) : Type 0 where
-  pub at : g .at ≡ p
-  pub size : g .size ≡ wordAt 8 b p
-  pub next : g .next ≡ wordAt 8 b (p + 8)
-  pub prev : g .prev ≡ wordAt 8 b (p + g .size - 16)
-  pub link : g .link ≡ linkOf wide (g .prev)
-  pub back : g .back ≡ backOf wide b (g .next)
+pub record GapRead (w : ℕ) (b : List ℕ) (p : ℕ) (g : Gap) : Type 0 where
+  pub at : g .at .0 ≡ p
+  pub size : g .size ≡ wordAt w b p
+  pub next : g .next .0 ≡ wordAt w b (p + w)
+  pub prev : g .prev .0 ≡ wordAt w b (p + g .size - 2 * w)
+  pub link : g .link .0 ≡ linkOf (shape w) (g .prev .0)
+  pub back : g .back .0 ≡ backOf (shape w) b (g .next .0)
 
 -- a block of size u and of a kind has room in the gap, which is within n bytes
-pub record PartRoom (n : ℕ) (g : Gap) (u kind : ℕ) : Type 0 where
+pub record PartRoom (w : ℕ) (n : ℕ) (g : Gap) (u kind : ℕ) : Type 0 where
   pub small : n + 3 < 2 ^ 64
-  pub inside : g .at + g .size ≤ n
+  pub inside : g .at .0 + g .size ≤ n
   pub part : u ≤ g .size
-  pub tags : 16 ≤ u
-  pub rest : u < g .size → u + 32 ≤ g .size
+  pub width : Width w
+  pub tags : 2 * w ≤ u
+  pub rest : u < g .size → u + 4 * w ≤ g .size
   pub tag : kind ≤ 3
-  pub linked : g .link + 8 ≤ n
-  pub behind : g .back + 8 ≤ n
+  pub linked : g .link .0 + w ≤ n
+  pub behind : g .back .0 + w ≤ n
 
 -- the words of such a block up to its payload, and after it, but the link back
-unfoldable pub lowWords : Gap → ℕ → ℕ → List Word
-lowWords g u kind =
-    record { at = g .link; is = restAt wide u (g .size) (g .at) (g .next) } ∷ record { at = g .at; is = u + kind } ∷ []
+unfoldable pub lowWords : ℕ → Gap → ℕ → ℕ → List Word
+lowWords w g u kind =
+    record { at = g .link .0; is = restAt (shape w) u (g .size) (g .at .0) (g .next .0) } ∷ record { at = g .at .0; is = u + kind } ∷ []
 
-unfoldable pub highWords : Gap → ℕ → ℕ → List Word
-highWords g u kind =
-    record { at = g .at + u - 8; is = u + kind } ∷ cond (ltb u (g .size)) (freeWords (g .at + u) (g .size - u) (g .prev) (g .next)) []
+unfoldable pub highWords : ℕ → Gap → ℕ → ℕ → List Word
+highWords w g u kind =
+    record { at = g .at .0 + u - w; is = u + kind } ∷ cond (ltb u (g .size)) (freeWords w (g .at .0 + u) (g .size - u) (g .prev .0) (g .next .0)) []
 
 -- a size that a variable block may have, in a heap of n bytes
-pub record Needed (n need : ℕ) : Type 0 where
-  pub large : leastTaken wide ≤ need
+pub record Needed (w : ℕ) (n need : ℕ) : Type 0 where
+  pub width : Width w
+  pub large : leastTaken (shape w) ≤ need
   pub eight : need % 8 ≡ 0
-  pub short : n ≤ 1048576
+  pub short : n ≤ shape w .most
 
 -- the heap after a variable block was made
-pub record Placed (b : List ℕ) (p need : ℕ) (c : List ℕ) : Type 0 where
-  pub draws : (L : Layout) (t : Spot) → SpotIn wide b p need L t → c ≡ drawn wide (record { blocks = placed wide need (asVariable wide) t; lists = L .lists }) b
+pub record Placed (w : ℕ) (b : List ℕ) (p need : ℕ) (c : List ℕ) : Type 0 where
+  pub draws : (L : Layout) (t : Spot) → SpotIn (shape w) b p need L t → c ≡ drawn (shape w) (record { blocks = placed (shape w) need (asVariable (shape w)) t; lists = L .lists }) b

@@ -3,7 +3,7 @@ use Prim.Native.Nat.{ℕ}
 use mathlib.Core.Path.{_≡_}
 use mathlib.Core.Bool.{Bool, true, false}
 use mathlib.Core.List.{List}
-use Rattle.model.specs.Shape.{wide}
+use Rattle.model.specs.Shape.{shape}
 use Rattle.model.specs.Layout.{Layout}
 use Rattle.model.specs.Sound.{Here, Sound}
 use Rattle.model.specs.Rules.{Found, block, thing, nothing, find, freed}
@@ -15,12 +15,12 @@ isFound nothing = false
 isFound (block t) = true
 isFound (thing o c) = true
 
-abbrev pub freedBytes : List ℕ → Layout → Found → List ℕ
-freedBytes b L nothing = b
-freedBytes b L (block t) = drawn wide (freed wide (block t) L) b
-freedBytes b L (thing o c) = drawn wide (freed wide (thing o c) L) b
+abbrev pub freedBytes : ℕ → List ℕ → Layout → Found → List ℕ
+freedBytes w b L nothing = b
+freedBytes w b L (block t) = drawn (shape w) (freed (shape w) (block t) L) b
+freedBytes w b L (thing o c) = drawn (shape w) (freed (shape w) (thing o c) L) b
 
-pub record Freed (b : List ℕ) (a : ℕ) (r : Bool) (c : List ℕ) : Type 0 where
-  pub answer : (L : Layout) → Here wide b L → r ≡ isFound (find wide a L)
-  pub bytes : (L : Layout) → Here wide b L → c ≡ freedBytes b L (find wide a L)
-  pub sound : Sound wide c
+pub record Freed (w : ℕ) (b : List ℕ) (a : ℕ) (r : Bool) (c : List ℕ) : Type 0 where
+  pub answer : (L : Layout) → Here (shape w) b L → r ≡ isFound (find (shape w) a L)
+  pub bytes : (L : Layout) → Here (shape w) b L → c ≡ freedBytes w b L (find (shape w) a L)
+  pub sound : Sound (shape w) c

@@ -3,26 +3,29 @@ use Prim.Native.Nat.{ℕ, _+_, _*_, _≤_, _<_}
 use mathlib.Core.Path.{_≡_}
 use mathlib.Core.List.{List}
 use lib.ListN.{length}
+use Rattle.words.specs.Width.{Width}
 use Rattle.words.specs.Word.{wordAt}
-use Rattle.model.specs.Shape.{wide, item, pageNeed}
+use Rattle.model.specs.Shape.{shape, item, pageNeed, index, start}
 use Rattle.model.specs.Layout.{Layout}
 use Rattle.model.specs.Rules.{Spot, paged}
 use Rattle.model.specs.Calls.{drawn}
 use Rattle.model.proofs.Spots.{SpotIn}
 
 -- a page's items of class c have room from p on, within n bytes
-pub record ItemsRoom (n c p : ℕ) : Type 0 where
-  pub class : c < 32
-  pub low : 48 ≤ p
-  pub inside : p + wide .perPage c * item wide c ≤ n
-  pub short : n ≤ 1048576
+pub record ItemsRoom (w : ℕ) (n c p : ℕ) : Type 0 where
+  pub width : Width w
+  pub class : c < 4 * w
+  pub low : index (shape w) ≤ p
+  pub inside : p + shape w .perPage c * item (shape w) c ≤ n
+  pub short : n ≤ shape w .most
 
 -- there is no item of class c on its list
-pub record NoItem (b : List ℕ) (c : ℕ) : Type 0 where
-  pub class : c < 32
-  pub short : length b ≤ 1048576
-  pub none : wordAt 8 b (48 + 8 * c) ≡ 0
+pub record NoItem (w : ℕ) (b : List ℕ) (c : ℕ) : Type 0 where
+  pub width : Width w
+  pub class : c < 4 * w
+  pub short : length b ≤ shape w .most
+  pub none : wordAt w b (index (shape w) + w * c) ≡ 0
 
 -- the heap after a page was made
-pub record MadePage (b : List ℕ) (p c : ℕ) (a : List ℕ) : Type 0 where
-  pub draws : (L : Layout) (t : Spot) → SpotIn wide b p (pageNeed wide c) L t → a ≡ drawn wide (paged wide c t L) b
+pub record MadePage (w : ℕ) (b : List ℕ) (p c : ℕ) (a : List ℕ) : Type 0 where
+  pub draws : (L : Layout) (t : Spot) → SpotIn (shape w) b p (pageNeed (shape w) c) L t → a ≡ drawn (shape w) (paged (shape w) c t L) b

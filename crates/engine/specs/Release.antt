@@ -1,12 +1,13 @@
 -- What giving a block back asks and promises.
-use Prim.Native.Nat.{ℕ, _+_, _-_, _≤_}
+use Prim.Native.Nat.{ℕ, _+_, _-_, _≤_, _*_}
 use mathlib.Core.Path.{_≡_}
 use mathlib.Core.Bool.{cond}
 use mathlib.Core.List.{List}
 use lib.ListN.{length}
 use lib.Dec.{eqb}
+use Rattle.words.specs.Width.{Width}
 use Rattle.words.specs.Word.{wordAt}
-use Rattle.model.specs.Shape.{wide}
+use Rattle.model.specs.Shape.{shape}
 use Rattle.model.specs.Layout.{Layout}
 use Rattle.model.specs.Sound.{Here, Sound}
 use Rattle.model.specs.Rules.{Spot, block, freed}
@@ -18,34 +19,37 @@ use Rattle.find.specs.Find.{BlockFound}
 abbrev pub leftAt : ℕ → ℕ → ℕ → ℕ
 leftAt p prev left = cond (eqb left 1) prev p
 
-abbrev pub leftFree : List ℕ → ℕ → ℕ → ℕ → ℕ
-leftFree b p prev left = cond (eqb left 1) (wordAt 8 b (p - 16)) prev
+abbrev pub leftFree : ℕ → List ℕ → ℕ → ℕ → ℕ → ℕ
+leftFree w b p prev left = cond (eqb left 1) (wordAt w b (p - 2 * w)) prev
 
 -- the high edge of what the block that ends at q becomes, and the free block behind that
-abbrev pub rightAt : List ℕ → ℕ → ℕ → ℕ
-rightAt b q next = cond (eqb next q) (q + wordAt 8 b q) q
+abbrev pub rightAt : ℕ → List ℕ → ℕ → ℕ → ℕ
+rightAt w b q next = cond (eqb next q) (q + wordAt w b q) q
 
-abbrev pub rightFree : List ℕ → ℕ → ℕ → ℕ
-rightFree b q next = cond (eqb next q) (wordAt 8 b (q + 8)) next
+abbrev pub rightFree : ℕ → List ℕ → ℕ → ℕ → ℕ
+rightFree w b q next = cond (eqb next q) (wordAt w b (q + w)) next
 
-pub record LeftRoom (b : List ℕ) (p : ℕ) : Type 0 where
-  pub low : 16 ≤ p
+pub record LeftRoom (w : ℕ) (b : List ℕ) (p : ℕ) : Type 0 where
+  pub width : Width w
+  pub low : 2 * w ≤ p
   pub inside : p ≤ length b
 
 -- where the next free block is at q, it is within the bytes
-pub record RightRoom (b : List ℕ) (q next : ℕ) : Type 0 where
-  pub block : next ≡ q → (16 ≤ wordAt 8 b q) × (q + wordAt 8 b q ≤ length b)
+pub record RightRoom (w : ℕ) (b : List ℕ) (q next : ℕ) : Type 0 where
+  pub width : Width w
+  pub block : next ≡ q → (2 * w ≤ wordAt w b q) × (q + wordAt w b q ≤ length b)
 
 -- x is a live block of a sound heap
-pub record BlockLive (b : List ℕ) (x : Block) : Type 0 where
+pub record BlockLive (w : ℕ) (b : List ℕ) (x : Block) : Type 0 where
+  pub width : Width w
   pub layout : Layout
-  pub here : Here wide b layout
-  pub short : length b ≤ 1048576
+  pub here : Here (shape w) b layout
+  pub short : length b ≤ shape w .most
   pub address : ℕ
   pub spot : Spot
-  pub found : BlockFound layout address spot x
+  pub found : BlockFound w layout address spot x
 
 -- the heap with it given back
-pub record Released (b : List ℕ) (x : Block) (c : List ℕ) : Type 0 where
-  pub draws : (L : Layout) (a : ℕ) (t : Spot) → Here wide b L → BlockFound L a t x → c ≡ drawn wide (freed wide (block t) L) b
-  pub sound : Sound wide c
+pub record Released (w : ℕ) (b : List ℕ) (x : Block) (c : List ℕ) : Type 0 where
+  pub draws : (L : Layout) (a : ℕ) (t : Spot) → Here (shape w) b L → BlockFound w L a t x → c ≡ drawn (shape w) (freed (shape w) (block t) L) b
+  pub sound : Sound (shape w) c

@@ -3,9 +3,9 @@ use crate::blocks;
 use crate::items;
 use crate::pages;
 use model::Address;
-use model::Position;
 use model::address_of;
 use model::class_of;
+use model::head_at;
 use model::need_of;
 use model::page_need;
 use words::word;
@@ -21,43 +21,43 @@ pub enum Taken {
 }
 
 // An item of class c: the first on its list, or of a new page where the list is empty.
-fn an_item(h: &mut [u8], c: usize) -> Taken
-    requires { ⌜ ReadyClass (now h) c ⌝ }
-    ensures { λ r. ⌜ GivesItem (now (h .entry)) c r (now (h .exit)) ⌝ }
+fn an_item(w: usize, h: &mut [u8], c: usize) -> Taken
+    requires { ⌜ ReadyClass w (now h) c ⌝ }
+    ensures { λ r. ⌜ GivesItem w (now (h .entry)) c r (now (h .exit)) ⌝ }
 {
-    if word(h, items::head_at(c)) != 0 {
-        return Taken::At(items::take(h, c));
+    if word(w, h, head_at(w, c)) != 0 {
+        return Taken::At(items::take(w, h, c));
     }
-    let p = blocks::find_fit(h, page_need(c));
-    if p == 0 {
+    let p = blocks::find_fit(w, h, page_need(w, c));
+    if p.0 == 0 {
         return Taken::NoRoom;
     }
-    pages::make(h, p, c);
-    Taken::At(items::take(h, c))
+    pages::make(w, h, p, c);
+    Taken::At(items::take(w, h, c))
 }
 
 // A variable block of size need.
-fn a_block(h: &mut [u8], need: usize) -> Taken
-    requires { ⌜ Ready (now h) ⌝ }
-    requires { ⌜ Needed (length (now h)) need ⌝ }
-    ensures { λ r. ⌜ GivesBlock (now (h .entry)) need r (now (h .exit)) ⌝ }
+fn a_block(w: usize, h: &mut [u8], need: usize) -> Taken
+    requires { ⌜ Ready w (now h) ⌝ }
+    requires { ⌜ Needed w (length (now h)) need ⌝ }
+    ensures { λ r. ⌜ GivesBlock w (now (h .entry)) need r (now (h .exit)) ⌝ }
 {
-    let p = blocks::find_fit(h, need);
-    if p == 0 {
+    let p = blocks::find_fit(w, h, need);
+    if p.0 == 0 {
         return Taken::NoRoom;
     }
-    blocks::take(h, p, need);
-    Taken::At(address_of(Position(p)))
+    blocks::take(w, h, p, need);
+    Taken::At(address_of(w, p))
 }
 
 // Allocates n bytes.
-pub fn allocate(h: &mut [u8], n: usize) -> Taken
-    requires { ⌜ Ready (now h) ⌝ }
-    requires { ⌜ Asked n ⌝ }
-    ensures { λ r. ⌜ Allocates (now (h .entry)) n r (now (h .exit)) ⌝ }
+pub fn allocate(w: usize, h: &mut [u8], n: usize) -> Taken
+    requires { ⌜ Ready w (now h) ⌝ }
+    requires { ⌜ Asked w n ⌝ }
+    ensures { λ r. ⌜ Allocates w (now (h .entry)) n r (now (h .exit)) ⌝ }
 {
-    if n <= 256 {
-        return an_item(h, class_of(n));
+    if n <= 32 * w {
+        return an_item(w, h, class_of(n));
     }
-    a_block(h, need_of(n))
+    a_block(w, h, need_of(w, n))
 }

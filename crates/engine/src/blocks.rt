@@ -3,13 +3,15 @@ use links::back_at;
 use links::link_at;
 use links::put_free;
 use links::put_if;
-use model::FIRST_FREE;
+use model::Position;
+use model::first_free;
 use words::put_word;
 use words::word;
 ghost use mathlib.Core.Path.{_≡_};
-ghost use Prim.Native.Nat.{_+_, _<_, _^_};
+ghost use Prim.Native.Nat.{_+_, _*_, _<_, _^_};
 ghost use lib.ListN.{length};
-ghost use Rattle.model.specs.Shape.{wide};
+ghost use Rattle.words.specs.Width.{Width};
+ghost use Rattle.model.specs.Shape.{shape};
 ghost use Rattle.model.specs.Picture.{draw};
 ghost use Rattle.model.specs.Layout.{Layout};
 ghost use Rattle.model.specs.Sound.{Here, Sound};
@@ -22,40 +24,40 @@ ghost use Rattle.engine.specs.Blocks.{GapRoom, GapRead, PartRoom, Needed
 
 // A free block: where it begins, its size, the free blocks behind and before it, and where the links to it from there stand.
 pub struct Gap {
-    pub at: usize,
+    pub at: Position,
     pub size: usize,
-    pub next: usize,
-    pub prev: usize,
-    pub link: usize,
-    pub back: usize,
+    pub next: Position,
+    pub prev: Position,
+    pub link: Position,
+    pub back: Position,
 }
 
 // The position of the lowest free block of size at least need, or 0.
-pub fn find_fit(h: &[u8], need: usize) -> usize
-    requires { ⌜ Sound wide (now h) ⌝ }
-    ensures { λ r. ⌜ ((L : Layout) → Here wide (now (h .entry)) L → r ≡ foundAt wide (fit need (L .blocks))) ⌝ }
+pub fn find_fit(w: usize, h: &[u8], need: usize) -> Position
+    requires { ⌜ Width w × Sound (shape w) (now h) ⌝ }
+    ensures { λ r. ⌜ ((L : Layout) → Here (shape w) (now (h .entry)) L → r .0 ≡ foundAt (shape w) (fit need (L .blocks))) ⌝ }
 {
-    let mut p = word(h, FIRST_FREE);
-    while p != 0 {
-        let s = word(h, p);
+    let mut p = Position(word(w, h, first_free(w)));
+    while p.0 != 0 {
+        let s = word(w, h, p.0);
         if need <= s {
             return p;
         }
-        p = word(h, p + 8);
+        p = Position(word(w, h, p.0 + w));
     }
-    0
+    Position(0)
 }
 
 // The free block at p, read.
-pub fn read(h: &[u8], p: usize) -> Gap
-    requires { ⌜ GapRoom (now h) p ⌝ }
-    ensures { λ r. ⌜ GapRead (now (h .entry)) p r ⌝ }
+pub fn read(w: usize, h: &[u8], p: Position) -> Gap
+    requires { ⌜ GapRoom w (now h) (p .0) ⌝ }
+    ensures { λ r. ⌜ GapRead w (now (h .entry)) (p .0) r ⌝ }
 {
-    let size = word(h, p);
-    let next = word(h, p + 8);
-    let prev = word(h, p + size - 16);
-    let link = link_at(prev);
-    let back = back_at(h, next);
+    let size = word(w, h, p.0);
+    let next = Position(word(w, h, p.0 + w));
+    let prev = Position(word(w, h, p.0 + size - 2 * w));
+    let link = link_at(w, prev);
+    let back = back_at(w, h, next);
     Gap {
         at: p,
         size: size,
@@ -67,47 +69,46 @@ pub fn read(h: &[u8], p: usize) -> Gap
 }
 
 // What a block in use takes of a free block of size s: its need, or the whole where too little would remain.
-pub fn taken(need: usize, s: usize) -> usize
-    requires { ⌜ need + 32 < 2 ^ 64 ⌝ }
-    ensures { λ r. ⌜ r ≡ takes wide need s ⌝ }
+pub fn taken(w: usize, need: usize, s: usize) -> usize
+    requires { ⌜ Width w × (need + 4 * w < 2 ^ 64) ⌝ }
+    ensures { λ r. ⌜ r ≡ takes (shape w) need s ⌝ }
 {
-    if need + 32 <= s { need } else { s }
+    if need + 4 * w <= s { need } else { s }
 }
 
 // The first words of a block in use of size u and of the given kind in the gap: the link past it, and its tag.
-pub fn put_low(h: &mut [u8], g: Gap, u: usize, kind: usize)
-    requires { ⌜ PartRoom (length (now h)) g u kind ⌝ }
-    ensures { λ _. ⌜ now (h .exit) ≡ draw 8 (lowWords g u kind) (now (h .entry)) ⌝ }
+pub fn put_low(w: usize, h: &mut [u8], g: Gap, u: usize, kind: usize)
+    requires { ⌜ PartRoom w (length (now h)) g u kind ⌝ }
+    ensures { λ _. ⌜ now (h .exit) ≡ draw w (lowWords w g u kind) (now (h .entry)) ⌝ }
 {
-    let at = g.at;
-    let first = if u < g.size { at + u } else { g.next };
-    put_word(h, g.link, first);
-    put_word(h, at, u + kind);
+    let first = if u < g.size { g.at.0 + u } else { g.next.0 };
+    put_word(w, h, g.link.0, first);
+    put_word(w, h, g.at.0, u + kind);
 }
 
 // Its last words: its far tag, the free rest, and the link back past it.
-pub fn put_high(h: &mut [u8], g: Gap, u: usize, kind: usize)
-    requires { ⌜ PartRoom (length (now h)) g u kind ⌝ }
-    ensures { λ _. ⌜ now (h .exit) ≡ putIf wide (draw 8 (highWords g u kind) (now (h .entry))) (g .back) (restAt wide u (g .size) (g .at) (g .prev)) ⌝ }
+pub fn put_high(w: usize, h: &mut [u8], g: Gap, u: usize, kind: usize)
+    requires { ⌜ PartRoom w (length (now h)) g u kind ⌝ }
+    ensures { λ _. ⌜ now (h .exit) ≡ putIf (shape w) (draw w (highWords w g u kind) (now (h .entry))) (g .back .0) (restAt (shape w) u (g .size) (g .at .0) (g .prev .0)) ⌝ }
 {
-    let q = g.at + u;
-    put_word(h, q - 8, u + kind);
+    let q = Position(g.at.0 + u);
+    put_word(w, h, q.0 - w, u + kind);
     if u < g.size {
-        put_free(h, q, g.size - u, g.prev, g.next);
-        put_if(h, g.back, q);
+        put_free(w, h, q, g.size - u, g.prev, g.next);
+        put_if(w, h, g.back, q);
     } else {
-        put_if(h, g.back, g.prev);
+        put_if(w, h, g.back, g.prev);
     }
 }
 
 // A variable block of size need is made of the free block at p.
-pub fn take(h: &mut [u8], p: usize, need: usize)
-    requires { ⌜ Spotted wide (now h) p need ⌝ }
-    requires { ⌜ Needed (length (now h)) need ⌝ }
-    ensures { λ _. ⌜ Placed (now (h .entry)) p need (now (h .exit)) ⌝ }
+pub fn take(w: usize, h: &mut [u8], p: Position, need: usize)
+    requires { ⌜ Spotted (shape w) (now h) (p .0) need ⌝ }
+    requires { ⌜ Needed w (length (now h)) need ⌝ }
+    ensures { λ _. ⌜ Placed w (now (h .entry)) (p .0) need (now (h .exit)) ⌝ }
 {
-    let g = read(h, p);
-    let u = taken(need, g.size);
-    put_low(h, g, u, 2);
-    put_high(h, g, u, 2);
+    let g = read(w, h, p);
+    let u = taken(w, need, g.size);
+    put_low(w, h, g, u, 2);
+    put_high(w, h, g, u, 2);
 }

@@ -3,23 +3,24 @@ use crate::items::give;
 use crate::release::release;
 use find::Live;
 use find::find;
+use model::Address;
 ghost use Rattle.engine.specs.Free.{Freed};
 ghost use Rattle.engine.specs.Ready.{Ready};
 
 // Gives back what is live at a: true; or false where nothing is, and nothing changes.
-pub fn free(h: &mut [u8], a: usize) -> bool
-    requires { ⌜ Ready (now h) ⌝ }
-    ensures { λ r. ⌜ Freed (now (h .entry)) a r (now (h .exit)) ⌝ }
+pub fn free(w: usize, h: &mut [u8], a: Address) -> bool
+    requires { ⌜ Ready w (now h) ⌝ }
+    ensures { λ r. ⌜ Freed w (now (h .entry)) (a .0) r (now (h .exit)) ⌝ }
 {
-    let x = find(h, a);
+    let x = find(w, h, a);
     match x {
         Live::Nothing => false,
         Live::Item(q, c) => {
-            give(h, q, c);
+            give(w, h, q, c);
             true
         }
         Live::Variable(b) => {
-            release(h, b);
+            release(w, h, b);
             true
         }
     }

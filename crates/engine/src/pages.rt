@@ -3,8 +3,8 @@ use crate::blocks::put_high;
 use crate::blocks::put_low;
 use crate::blocks::read;
 use crate::blocks::taken;
-use crate::items::head_at;
 use model::Position;
+use model::head_at;
 use model::item_size;
 use model::items_in_page;
 use model::offset_of;
@@ -12,40 +12,40 @@ use model::page_need;
 use words::put_word;
 ghost use mathlib.Core.Path.{_≡_};
 ghost use lib.ListN.{length};
-ghost use Rattle.model.specs.Shape.{wide, pageNeed};
+ghost use Rattle.model.specs.Shape.{shape, pageNeed};
 ghost use Rattle.model.specs.Picture.{draw};
 ghost use Rattle.model.proofs.PageWords.{itemWords};
 ghost use Rattle.model.proofs.Spots.{Spotted};
 ghost use Rattle.engine.specs.Pages.{ItemsRoom, NoItem, MadePage};
 
 // The headers of a page's items of class c from p on, all free, each linked to the next.
-fn link_items(h: &mut [u8], c: usize, p: usize)
-    requires { ⌜ ItemsRoom (length (now h)) c p ⌝ }
-    ensures { λ _. ⌜ now (h .exit) ≡ draw 8 (itemWords wide c p (wide .perPage c)) (now (h .entry)) ⌝ }
+fn link_items(w: usize, h: &mut [u8], c: usize, p: Position)
+    requires { ⌜ ItemsRoom w (length (now h)) c (p .0) ⌝ }
+    ensures { λ _. ⌜ now (h .exit) ≡ draw w (itemWords (shape w) c (p .0) (shape w .perPage c)) (now (h .entry)) ⌝ }
 {
-    let size = item_size(c);
-    let mut left = items_in_page(c);
+    let size = item_size(w, c);
+    let mut left = items_in_page(w, c);
     let mut at = p;
     while 1 < left {
-        let next = offset_of(Position(at + size));
-        put_word(h, at, 16 * next.0 + 4 * c + 1);
-        at += size;
+        let next = Position(at.0 + size);
+        put_word(w, h, at.0, 16 * offset_of(w, next).0 + 4 * c + 1);
+        at = next;
         left -= 1;
     }
-    put_word(h, at, 4 * c + 1);
+    put_word(w, h, at.0, 4 * c + 1);
 }
 
 // A page of class c, whose list is empty, is made of the free block at p.
-pub fn make(h: &mut [u8], p: usize, c: usize)
-    requires { ⌜ Spotted wide (now h) p (pageNeed wide c) ⌝ }
-    requires { ⌜ NoItem (now h) c ⌝ }
-    ensures { λ _. ⌜ MadePage (now (h .entry)) p c (now (h .exit)) ⌝ }
+pub fn make(w: usize, h: &mut [u8], p: Position, c: usize)
+    requires { ⌜ Spotted (shape w) (now h) (p .0) (pageNeed (shape w) c) ⌝ }
+    requires { ⌜ NoItem w (now h) c ⌝ }
+    ensures { λ _. ⌜ MadePage w (now (h .entry)) (p .0) c (now (h .exit)) ⌝ }
 {
-    let first = offset_of(Position(p + 8));
-    put_word(h, head_at(c), first.0);
-    let g = read(h, p);
-    let u = taken(page_need(c), g.size);
-    put_low(h, g, u, 3);
-    link_items(h, c, p + 8);
-    put_high(h, g, u, 3);
+    let first = Position(p.0 + w);
+    put_word(w, h, head_at(w, c), offset_of(w, first).0);
+    let g = read(w, h, p);
+    let u = taken(w, page_need(w, c), g.size);
+    put_low(w, h, g, u, 3);
+    link_items(w, h, c, first);
+    put_high(w, h, g, u, 3);
 }

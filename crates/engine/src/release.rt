@@ -2,57 +2,56 @@
 use find::Block;
 use links::link_at;
 use links::put_linked;
+use model::Position;
 use words::word;
 ghost use mathlib.Core.Path.{_≡_};
 ghost use Prim.Native.Nat.{_+_, _≤_};
 ghost use lib.ListN.{length};
-ghost use Rattle.model.specs.Shape.{wide};
+ghost use Rattle.model.specs.Shape.{shape};
 ghost use Rattle.engine.specs.Release.{LeftRoom, RightRoom, leftAt, leftFree, rightAt, rightFree, BlockLive, Released};
 
 // Where a joined block begins or ends, and the free block beyond that (0: none).
 pub struct Edge {
-    pub at: usize,
-    pub free: usize,
+    pub at: Position,
+    pub free: Position,
 }
 
 // The low edge of what the block at p becomes, where the last free block before it is at prev and touches it or not.
-fn left_edge(h: &[u8], p: usize, prev: usize, left: usize) -> Edge
-    requires { ⌜ LeftRoom (now h) p ⌝ }
-    ensures { λ r. ⌜ (r .at ≡ leftAt p prev left) × (r .free ≡ leftFree (now (h .entry)) p prev left) ⌝ }
+fn left_edge(w: usize, h: &[u8], p: Position, prev: Position, left: usize) -> Edge
+    requires { ⌜ LeftRoom w (now h) (p .0) ⌝ }
+    ensures { λ r. ⌜ (r .at .0 ≡ leftAt (p .0) (prev .0) left) × (r .free .0 ≡ leftFree w (now (h .entry)) (p .0) (prev .0) left) ⌝ }
 {
     if left == 1 {
         return Edge {
             at: prev,
-            free: word(h, p - 16),
+            free: Position(word(w, h, p.0 - 2 * w)),
         };
     }
     Edge { at: p, free: prev }
 }
 
 // The high edge of what the block that ends at q becomes, where the next free block is at next.
-pub fn right_edge(h: &[u8], q: usize, next: usize) -> Edge
-    requires { ⌜ RightRoom (now h) q next ⌝ }
-    ensures { λ r. ⌜ (r .at ≡ rightAt (now (h .entry)) q next) × (r .free ≡ rightFree (now (h .entry)) q next) ⌝ }
+pub fn right_edge(w: usize, h: &[u8], q: Position, next: Position) -> Edge
+    requires { ⌜ RightRoom w (now h) (q .0) (next .0) ⌝ }
+    ensures { λ r. ⌜ (r .at .0 ≡ rightAt w (now (h .entry)) (q .0) (next .0)) × (r .free .0 ≡ rightFree w (now (h .entry)) (q .0) (next .0)) ⌝ }
 {
-    if next == q {
+    if next.0 == q.0 {
         return Edge {
-            at: q + word(h, q),
-            free: word(h, q + 8),
+            at: Position(q.0 + word(w, h, q.0)),
+            free: Position(word(w, h, q.0 + w)),
         };
     }
     Edge { at: q, free: next }
 }
 
 // Gives the block x back.
-pub fn release(h: &mut [u8], x: Block)
-    requires { ⌜ BlockLive (now h) x ⌝ }
-    ensures { λ _. ⌜ Released (now (h .entry)) x (now (h .exit)) ⌝ }
+pub fn release(w: usize, h: &mut [u8], x: Block)
+    requires { ⌜ BlockLive w (now h) x ⌝ }
+    ensures { λ _. ⌜ Released w (now (h .entry)) x (now (h .exit)) ⌝ }
 {
-    let p = x.at.0;
-    let q = p + x.size;
-    let prev = x.prev.0;
-    let next = word(h, link_at(prev));
-    let low = left_edge(h, p, prev, x.left);
-    let high = right_edge(h, q, next);
-    put_linked(h, low.at, high.at, low.free, high.free);
+    let q = Position(x.at.0 + x.size);
+    let next = Position(word(w, h, link_at(w, x.prev).0));
+    let low = left_edge(w, h, x.at, x.prev, x.left);
+    let high = right_edge(w, h, q, next);
+    put_linked(w, h, low.at, high.at, low.free, high.free);
 }

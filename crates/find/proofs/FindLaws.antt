@@ -5,12 +5,15 @@ use mathlib.Core.List.{List, [], _∷_, _++_, append-nil}
 use native.Mathlib.Nat.{mul-mod-left, div-add-mod', mul-div-cancel}
 use native.Mathlib.Omega.{arith}
 use lib.ListN.{length, getD}
+use Rattle.words.specs.Width.{Width}
 use Rattle.words.specs.Word.{wordAt}
-use Rattle.model.specs.Shape.{wide, item, offsetOf, endOf}
+use Rattle.model.specs.Shape.{shape, item, offsetOf, endOf, start, index}
+use Rattle.model.specs.declared.Position.{Position}
 use Rattle.model.specs.Picture.{Shows}
 use Rattle.model.specs.Layout.{Slot, variable, page, Block, free, used, Layout, nextOf, useSize, slotWords, useWords, own}
 use Rattle.model.specs.Sound.{Allowed, AllowedUse, AllAllowed, Here, Sound}
 use Rattle.model.specs.Rules.{Spot, Found, block, thing, nothing, find, findFrom, inSlots}
+use Rattle.model.proofs.Sizes.{per-page-bound}
 use Rattle.model.proofs.Pictures.{shows-left}
 use Rattle.model.proofs.Blocks.{allowed-left, le-ends}
 use Rattle.model.proofs.Standing.{Standing, stand-start, PageThere, sized, walk-free, walk-used, is-variable, is-free, is-page}
@@ -19,190 +22,194 @@ use Rattle.model.proofs.Aligned.{next-aligned, class-read, SlotRead, slot-read,
 use Rattle.find.specs.declared.Live.the-variants.{Nothing, Item, Variable}
 use Rattle.find.specs.Find.{Finds, OnBlock, OnPage}
 
-module _ {b : List ℕ} {L : Layout} (h : Here wide b L) {p prev left : ℕ} (s : Standing L p prev left) where
+module _ {w : ℕ} (wd : Width w) {b : List ℕ} {L : Layout} (h : Here (shape w) b L) {p prev left : ℕ} (s : Standing w L p prev left) where
   -- what is found is found from where the walk stands
-  pub find-from : (a : ℕ) → p ≤ a → find wide a L ≡ behinds (s .pre) (findFrom wide a p (s .rest))
+  pub find-from : (a : ℕ) → p ≤ a → find (shape w) a L ≡ behinds (s .pre) (findFrom (shape w) a p (s .rest))
   find-from a l =
-      let all : AllAllowed wide (s .pre ++ s .rest) = subst (λ (l : List Block). AllAllowed wide l) (s .blocks) (h .valid .allowed) in
-      let e : find wide a L ≡ findFrom wide a 312 (s .pre ++ s .rest) = ap (λ (l : List Block). findFrom wide a 312 l) (s .blocks) in
-      e ∙ find-past wide (omega arith) a 312 (s .pre) (s .rest) (allowed-left wide (s .pre) (s .rest) all) (omega (arith, s .begins))
-      ∙ ap (λ (q : ℕ). behinds (s .pre) (findFrom wide a q (s .rest))) (s .begins)
+      let all : AllAllowed (shape w) (s .pre ++ s .rest) = subst (λ (l : List Block). AllAllowed (shape w) l) (s .blocks) (h .valid .allowed) in
+      let e : find (shape w) a L ≡ findFrom (shape w) a (start (shape w)) (s .pre ++ s .rest) = ap (λ (l : List Block). findFrom (shape w) a (start (shape w)) l) (s .blocks) in
+      e ∙ find-past (shape w) (omega arith) a (start (shape w)) (s .pre) (s .rest) (allowed-left (shape w) (s .pre) (s .rest) all) (omega (arith, s .begins))
+      ∙ ap (λ (q : ℕ). behinds (s .pre) (findFrom (shape w) a q (s .rest))) (s .begins)
 
   -- nothing is live where a block begins
-  pub found-between : (a : ℕ) → p ≡ a → Finds L a Nothing
+  pub found-between : (a : ℕ) → p ≡ a → Finds w L a Nothing
   unfolding Finds
   found-between a e =
-      find-from a (omega arith) ∙ ap (λ (f : Found). behinds (s .pre) f) (find-below wide (omega arith) a p (s .rest) (omega arith))
+      find-from a (omega arith) ∙ ap (λ (f : Found). behinds (s .pre) f) (find-below (shape w) (omega arith) a p (s .rest) (omega arith))
 
 -- nor behind the end
-pub found-behind : (b : List ℕ) (L : Layout) (a : ℕ) → Here wide b L → endOf (length b) ≤ a → Finds L a Nothing
+pub found-behind : {w : ℕ} → Width w → (b : List ℕ) (L : Layout) (a : ℕ) → Here (shape w) b L → endOf (length b) ≤ a → Finds w L a Nothing
 unfolding Finds findFrom
-found-behind b L a h l =
-    let e : find wide a L ≡ findFrom wide a 312 (L .blocks ++ []) = ap (λ (l : List Block). findFrom wide a 312 l) (sym (append-nil (L .blocks))) in
-    e ∙ find-past wide (omega arith) a 312 (L .blocks) [] (h .valid .allowed) (omega (arith, h .valid .fills))
+found-behind {w} wd b L a h l =
+    let e : find (shape w) a L ≡ findFrom (shape w) a (start (shape w)) (L .blocks ++ []) = ap (λ (l : List Block). findFrom (shape w) a (start (shape w)) l) (sym (append-nil (L .blocks))) in
+    e ∙ find-past (shape w) (omega arith) a (start (shape w)) (L .blocks) [] (h .valid .allowed) (omega (arith, h .valid .fills))
 
-module _ {b : List ℕ} {p t prev left a : ℕ} (o : OnBlock b p t prev left a) (L : Layout) (h : Here wide b L) where
-  stands : Standing L p prev left
+module _ {w : ℕ} {b : List ℕ} {p t prev left a : ℕ} (o : OnBlock w b p t prev left a) (L : Layout) (h : Here (shape w) b L) where
+  stands : Standing w L p prev left
   stands = o .standing L h
 
-  found-rest : (r : List Block) → stands .rest ≡ r → find wide a L ≡ behinds (stands .pre) (findFrom wide a p r)
-  found-rest r e = find-from h stands a (o .from) ∙ ap (λ (l : List Block). behinds (stands .pre) (findFrom wide a p l)) e
+  found-rest : (r : List Block) → stands .rest ≡ r → find (shape w) a L ≡ behinds (stands .pre) (findFrom (shape w) a p r)
+  found-rest r e = find-from (o .width) h stands a (o .from) ∙ ap (λ (l : List Block). behinds (stands .pre) (findFrom (shape w) a p l)) e
 
-  pub found-in-free : t % 8 ≡ 0 → Finds L a Nothing
+  pub found-in-free : t % 8 ≡ 0 → Finds w L a Nothing
   unfolding Finds
   found-in-free z =
-      let r = is-free h stands t (o .tag) (omega (arith, o .from, o .below)) z in
-      found-rest (free (t / 8 * 8) ∷ r .0) (r .1) ∙ ap (λ (f : Found). behinds (stands .pre) f) (find-free wide (omega arith) a p (t / 8 * 8) (r .0) (o .reach))
+      let r = is-free (o .width) h stands t (o .tag) (omega (arith, o .from, o .below)) z in
+      found-rest (free (t / 8 * 8) ∷ r .0) (r .1) ∙ ap (λ (f : Found). behinds (stands .pre) f) (find-free (shape w) (omega arith) a p (t / 8 * 8) (r .0) (o .reach))
 
-  pub found-elsewhere : t % 8 ≡ 2 → (a ≡ p + 8 → ⊥) → Finds L a Nothing
+  pub found-elsewhere : t % 8 ≡ 2 → (a ≡ p + w → ⊥) → Finds w L a Nothing
   unfolding Finds
   found-elsewhere z n =
-      let r = is-variable h stands t (o .tag) (omega (arith, o .from, o .below)) z in
+      let r = is-variable (o .width) h stands t (o .tag) (omega (arith, o .from, o .below)) z in
       found-rest (used (variable (t / 8 * 8)) ∷ r .0) (r .1)
-      ∙ ap (λ (f : Found). behinds (stands .pre) f) (find-not-at wide (omega arith) a p (t / 8 * 8) (r .0) n (o .reach))
+      ∙ ap (λ (f : Found). behinds (stands .pre) f) (find-not-at (shape w) (omega arith) a p (t / 8 * 8) (r .0) n (o .reach))
 
-  pub found-variable : t % 8 ≡ 2 → a ≡ p + 8 → Finds L a (Variable (record { at = record { 0 = p }; size = t / 8 * 8; prev = record { 0 = prev }; left = left }))
+  pub found-variable : (at before : Position) → at .0 ≡ p → before .0 ≡ prev → t % 8 ≡ 2 → a ≡ p + w → Finds w L a (Variable (record { at = at; size = t / 8 * 8; prev = before; left = left }))
   unfolding Finds
-  found-variable z e =
-      let r = is-variable h stands t (o .tag) (omega (arith, o .from, o .below)) z in
+  found-variable at before ea eb z e =
+      let r = is-variable (o .width) h stands t (o .tag) (omega (arith, o .from, o .below)) z in
       let spot : Spot = record { pre = stands .pre; size = t / 8 * 8; post = r .0 } in (
         spot,
         record {
           found = found-rest (used (variable (t / 8 * 8)) ∷ r .0) (r .1)
-              ∙ ap (λ (f : Found). behinds (stands .pre) f) (find-at wide (omega arith) a p (t / 8 * 8) (r .0) e)
+              ∙ ap (λ (f : Found). behinds (stands .pre) f) (find-at (shape w) (omega arith) a p (t / 8 * 8) (r .0) e)
               ∙ ap (λ (l : List Block). block (record { pre = l; size = t / 8 * 8; post = r .0 })) (append-nil (stands .pre));
-          at = stands .begins;
+          at = stands .begins ∙ sym ea;
           size = refl;
-          before = stands .before;
+          before = stands .before ∙ sym eb;
           touches = stands .touches;
         },
       )
 
-module _ {b : List ℕ} {p a : ℕ} (o : OnPage b p a) (L : Layout) (h : Here wide b L) where
-  on : OnBlock b p (o .tag) (o .prev) (o .left) a
+module _ {w : ℕ} {b : List ℕ} {p a : ℕ} (o : OnPage w b p a) (L : Layout) (h : Here (shape w) b L) where
+  on : OnBlock w b p (o .tag) (o .prev) (o .left) a
   on = o .block
 
-  there : PageThere h (stands on L h) (o .tag) (on .tag) (omega (arith, on .from, on .below))
-  there = is-page h (stands on L h) (o .tag) (on .tag) (omega (arith, on .from, on .below)) (o .not-free) (o .not-variable)
+  there : PageThere (on .width) h (stands on L h) (o .tag) (on .tag) (omega (arith, on .from, on .below))
+  there = is-page (on .width) h (stands on L h) (o .tag) (on .tag) (omega (arith, on .from, on .below)) (o .not-free) (o .not-variable)
 
   class : ℕ
   class = there .class
 
-  class-few : class < 32
+  class-few : class < 4 * w
   unfolding class Allowed AllowedUse
   class-few = there .met .allowed .0
 
-  counted : length (there .slots) ≡ wide .perPage class
+  counted : length (there .slots) ≡ shape w .perPage class
   unfolding class Allowed AllowedUse
   counted = there .met .allowed .1
 
-  slots-shown : Shows 8 b (slotWords wide class (getD (L .lists) class []) (p + 8) (there .slots))
+  slots-shown : Shows w b (slotWords (shape w) class (getD (L .lists) class []) (p + w) (there .slots))
   unfolding class own useWords Shows
   slots-shown =
-      shows-left 8 b (slotWords wide (there .class) (getD (L .lists) (there .class) []) (p + 8) (there .slots))
-      (record { at = p + useSize wide (page (there .class) (there .spare) (there .slots)) - 8; is = useSize wide (page (there .class) (there .spare) (there .slots)) + 3 } ∷ [])
+      shows-left w b (slotWords (shape w) (there .class) (getD (L .lists) (there .class) []) (p + w) (there .slots))
+      (record { at = p + useSize (shape w) (page (there .class) (there .spare) (there .slots)) - w; is = useSize (shape w) (page (there .class) (there .spare) (there .slots)) + 3 } ∷ [])
       (there .met .shown .1)
 
-  aligned : (x : ℕ) → nextOf x (getD (L .lists) class []) % 8 ≡ 0
-  aligned x = next-aligned (endOf (length b)) L (h .valid) class x class-few
+  aligned : (x : ℕ) → nextOf x (getD (L .lists) class []) % w ≡ 0
+  aligned x = next-aligned (on .width) (endOf (length b)) L (h .valid) class x class-few
 
   -- the class that the first header says is the page's
-  class-is : (c : ℕ) → c ≡ wordAt 8 b (p + 8) % 128 / 4 → c ≡ class
+  class-is : (c : ℕ) → c ≡ wordAt w b (p + w) % (16 * w) / 4 → c ≡ class
   class-is c e = go (there .slots) counted slots-shown
     where
-      go : (ss : List Slot) → length ss ≡ wide .perPage class → Shows 8 b (slotWords wide class (getD (L .lists) class []) (p + 8) ss) → c ≡ class
-      go [] n s = absurd (omega arith)
-      go (x ∷ ss) n s = e ∙ class-read b (getD (L .lists) class []) class class-few aligned (p + 8) x ss s
+      go : (ss : List Slot) → length ss ≡ shape w .perPage class → Shows w b (slotWords (shape w) class (getD (L .lists) class []) (p + w) ss) → c ≡ class
+      go [] n s = absurd (omega (arith, per-page-bound (on .width) class))
+      go (x ∷ ss) n s = e ∙ class-read (on .width) b (getD (L .lists) class []) class class-few aligned (p + w) x ss s
 
-  in-slots : (f : Found) → inSlots wide a class (p + 8) (there .slots) ≡ f → find wide a L ≡ behinds (stands on L h .pre) f
+  in-slots : (f : Found) → inSlots (shape w) a class (p + w) (there .slots) ≡ f → find (shape w) a L ≡ behinds (stands on L h .pre) f
   unfolding class
   in-slots f e =
       found-rest on L h (used (page (there .class) (there .spare) (there .slots)) ∷ there .after) (there .rest)
       ∙ ap (λ (g : Found). behinds (stands on L h .pre) g)
-      (find-page wide (omega arith) a p (there .class) (there .spare) (there .slots) (there .after) (omega (arith, on .reach, there .size)) ∙ e)
+      (find-page (shape w) (omega arith) a p (there .class) (there .spare) (there .slots) (there .after) (omega (arith, on .reach, there .size)) ∙ e)
 
-  pub page-low : a < p + 16 → Finds L a Nothing
+  pub page-low : a < p + 2 * w → Finds w L a Nothing
   unfolding Finds
-  page-low l = in-slots nothing (slots-below wide (omega arith) a class (p + 8) (there .slots) (omega arith))
+  page-low l = in-slots nothing (slots-below (shape w) (omega arith) a class (p + w) (there .slots) (omega arith))
 
-  -- f is the first header, s the items' size and n their number, as code works them out
-  module _ (f s n : ℕ) (ef : f ≡ wordAt 8 b (p + 8)) (es : s ≡ item wide (f % 128 / 4)) (en : n ≡ wide .perPage (f % 128 / 4)) (from : p + 16 ≤ a) where
-    class-same : f % 128 / 4 ≡ class
-    class-same = class-is (f % 128 / 4) (ap (λ (x : ℕ). x % 128 / 4) ef)
+  -- f is the first header, c the class that it says, s the items' size and n their number, as code works them out
+  module _ (f c s n d : ℕ) (ef : f ≡ wordAt w b (p + w)) (ec : c ≡ f % (16 * w) / 4) (es : s ≡ item (shape w) c) (en : n ≡ shape w .perPage c) (from : p + 2 * w ≤ a) (ed : d ≡ a - (p + 2 * w)) where
+    class-same : c ≡ class
+    class-same = class-is c (ec ∙ ap (λ (x : ℕ). x % (16 * w) / 4) ef)
 
-    size-same : s ≡ item wide class
-    size-same = es ∙ ap (λ (x : ℕ). item wide x) class-same
+    size-same : s ≡ item (shape w) class
+    size-same = es ∙ ap (λ (x : ℕ). item (shape w) x) class-same
 
     count-same : n ≡ length (there .slots)
-    count-same = en ∙ ap (λ (x : ℕ). wide .perPage x) class-same ∙ sym counted
+    count-same = en ∙ ap (λ (x : ℕ). shape w .perPage x) class-same ∙ sym counted
 
     -- an address that is an item's is a whole number of items on
-    whole : (i : ℕ) → a ≡ p + 8 + i * item wide class + 8 → i * s ≡ a - (p + 16)
-    whole i e = rw size-same (omega arith)
+    whole : (i : ℕ) → a ≡ p + w + i * item (shape w) class + w → i * s ≡ d
+    whole i e = rw (size-same, ed) (omega arith)
 
-    pub page-uneven : ((a - (p + 16)) % s ≡ 0 → ⊥) → Finds L a Nothing
+    pub page-uneven : (d % s ≡ 0 → ⊥) → Finds w L a Nothing
     unfolding Finds
     page-uneven z =
-        in-slots nothing (slots-none a class (p + 8) (there .slots) (λ i l e. z (ap (λ (x : ℕ). x % s) (sym (whole i e)) ∙ mul-mod-left i s)))
+        in-slots nothing (slots-none (on .width) a class (p + w) (there .slots) (λ i l e. z (ap (λ (x : ℕ). x % s) (sym (whole i e)) ∙ mul-mod-left i s)))
 
-    pub page-over : n ≤ (a - (p + 16)) / s → Finds L a Nothing
+    pub page-over : n ≤ d / s → Finds w L a Nothing
     unfolding Finds
-    page-over z = in-slots nothing (slots-none a class (p + 8) (there .slots) (λ i l e. omega (arith, count-same, quotient i e)))
+    page-over z = in-slots nothing (slots-none (on .width) a class (p + w) (there .slots) (λ i l e. omega (arith, count-same, quotient i e)))
       where
-        quotient : (i : ℕ) → a ≡ p + 8 + i * item wide class + 8 → (a - (p + 16)) / s ≡ i
+        quotient : (i : ℕ) → a ≡ p + w + i * item (shape w) class + w → d / s ≡ i
         quotient i e = ap (λ (x : ℕ). x / s) (sym (whole i e)) ∙ mul-div-cancel i (omega (arith, size-same))
 
-    module _ (even : (a - (p + 16)) % s ≡ 0) (within : (a - (p + 16)) / s < n) (w : ℕ) (ew : w ≡ wordAt 8 b (a - 8)) where
-      read : SlotRead b (getD (L .lists) class []) class class-few aligned a (p + 8) (there .slots)
+    module _ (even : d % s ≡ 0) (within : d / s < n) (x : ℕ) (q : Position) (eq : q .0 ≡ a - w) (eq-x : x ≡ wordAt w b (q .0)) where
+      ew : x ≡ wordAt w b (a - w)
+      ew = eq-x ∙ ap (λ (y : ℕ). wordAt w b y) eq
+
+      read : SlotRead (on .width) b (getD (L .lists) class []) class class-few aligned a (p + w) (there .slots)
       read =
-          let e : (a - (p + 16)) / s * s ≡ a - (p + 16) = omega (arith, div-add-mod' (a - (p + 16)) s) in
-          let g : (a - (p + 16)) / s * item wide class ≡ a - (p + 16) = ap (λ (x : ℕ). (a - (p + 16)) / s * x) (sym size-same) ∙ e in
-          slot-read b (getD (L .lists) class []) class class-few aligned a (p + 8) ((a - (p + 16)) / s) (there .slots) (omega (arith, count-same)) (omega (arith, g)) slots-shown
+          let e : d / s * s ≡ d = omega (arith, div-add-mod' d s) in
+          let g : d / s * item (shape w) class ≡ d = ap (λ (x : ℕ). d / s * x) (sym size-same) ∙ e in
+          slot-read (on .width) b (getD (L .lists) class []) class class-few aligned a (p + w) (d / s) (there .slots) (omega (arith, count-same)) (omega (arith, g, ed)) slots-shown
 
-      pub page-idle : (w ≡ 4 * (f % 128 / 4) + 3 → ⊥) → Finds L a Nothing
+      pub page-idle : (x ≡ 4 * c + 3 → ⊥) → Finds w L a Nothing
       unfolding Finds
-      page-idle z = in-slots nothing (read .not-in-use (λ e. z (omega (arith, e, class-same))))
+      page-idle z = in-slots nothing (read .not-in-use (λ e. z (omega (arith, ew, e, class-same))))
 
-      pub page-held : w ≡ 4 * (f % 128 / 4) + 3 → Finds L a (Item (record { 0 = a - 8 }) (f % 128 / 4))
+      pub page-held : x ≡ 4 * c + 3 → Finds w L a (Item q c)
       unfolding Finds
       page-held z =
-          (omega (arith, start-low), in-slots (thing (offsetOf wide (a - 8)) class) (read .in-use (omega (arith, class-same))) ∙ ap (λ (x : ℕ). thing (offsetOf wide (a - 8)) x) (sym class-same))
+          (omega (arith, start-low, eq), in-slots (thing (offsetOf (shape w) (a - w)) class) (read .in-use (omega (arith, ew, class-same))) ∙ rw (eq, class-same) refl)
         where
-          start-low : 312 ≤ p
-          start-low = omega (arith, stands on L h .begins, le-ends wide 312 (stands on L h .pre))
+          start-low : (start (shape w)) ≤ p
+          start-low = omega (arith, stands on L h .begins, le-ends (shape w) (start (shape w)) (stands on L h .pre))
 
 -- nothing is live before the data area
-pub found-before : (L : Layout) (a : ℕ) → a < 312 → Finds L a Nothing
+pub found-before : {w : ℕ} → Width w → (L : Layout) (a : ℕ) → a < (start (shape w)) → Finds w L a Nothing
 unfolding Finds
-found-before L a l = find-below wide (omega arith) a 312 (L .blocks) (omega arith)
+found-before {w} wd L a l = find-below (shape w) (omega arith) a (start (shape w)) (L .blocks) (omega arith)
 
 -- the walk towards a stands at p
-pub record Looking (b : List ℕ) (a p prev left : ℕ) : Type 0 where
-  pub sound : Sound wide b
-  pub standing : (L : Layout) → Here wide b L → Standing L p prev left
+pub record Looking (w : ℕ) (b : List ℕ) (a p prev left : ℕ) : Type 0 where
+  pub width : Width w
+  pub sound : Sound (shape w) b
+  pub standing : (L : Layout) → Here (shape w) b L → Standing w L p prev left
   pub from : p ≤ a
   pub below : a < endOf (length b)
 
-pub look-start : (b : List ℕ) (a : ℕ) → Sound wide b → 312 ≤ a → a < endOf (length b) → Looking b a 312 0 0
-look-start b a s l m = record { sound = s; standing = λ L h. stand-start L; from = l; below = m }
+pub look-start : {w : ℕ} → Width w → (b : List ℕ) (a p : ℕ) → Sound (shape w) b → p ≡ start (shape w) → p ≤ a → a < endOf (length b) → Looking w b a p 0 0
+look-start {w} wd b a p s e l m = record { width = wd; sound = s; standing = λ L h. rw e (stand-start w L); from = l; below = m }
 
-module _ {b : List ℕ} {a p prev left : ℕ} (k : Looking b a p prev left) where
+module _ {w : ℕ} {b : List ℕ} {a p prev left : ℕ} (k : Looking w b a p prev left) where
   -- the block at p is within the heap
-  pub look-inside : p < a → (t : ℕ) → t ≡ wordAt 8 b p → (32 ≤ t / 8 * 8) × (p + t / 8 * 8 ≤ endOf (length b))
+  pub look-inside : p < a → (t : ℕ) → t ≡ wordAt w b p → (4 * w ≤ t / 8 * 8) × (p + t / 8 * 8 ≤ endOf (length b))
   look-inside l t e =
-      let z = sized (k .sound .here) (k .standing (k .sound .layout) (k .sound .here)) t e (omega (arith, k .below)) in
+      let z = sized (k .width) (k .sound .here) (k .standing (k .sound .layout) (k .sound .here)) t e (omega (arith, k .below)) in
       (z .least, z .inside)
 
-  pub look-on : (t : ℕ) → t ≡ wordAt 8 b p → a < p + t / 8 * 8 → OnBlock b p t prev left a
-  look-on t e r = record { sound = k .sound; standing = k .standing; tag = e; from = k .from; reach = r; below = k .below }
+  pub look-on : (t : ℕ) → t ≡ wordAt w b p → a < p + t / 8 * 8 → OnBlock w b p t prev left a
+  look-on t e r = record { width = k .width; sound = k .sound; standing = k .standing; tag = e; from = k .from; reach = r; below = k .below }
 
-  pub look-past-free : p < a → (t : ℕ) → t ≡ wordAt 8 b p → p + t / 8 * 8 ≤ a → t % 8 ≡ 0 → Looking b a (p + t / 8 * 8) p 1
+  pub look-past-free : p < a → (t : ℕ) → t ≡ wordAt w b p → p + t / 8 * 8 ≤ a → t % 8 ≡ 0 → Looking w b a (p + t / 8 * 8) p 1
   look-past-free l t e r z =
-      record { sound = k .sound; standing = λ L h. walk-free h (k .standing L h) t e (omega (arith, k .below)) z; from = r; below = k .below }
+      record { width = k .width; sound = k .sound; standing = λ L h. walk-free (k .width) h (k .standing L h) t e (omega (arith, k .below)) z; from = r; below = k .below }
 
-  pub look-past-used : p < a → (t : ℕ) → t ≡ wordAt 8 b p → p + t / 8 * 8 ≤ a → (t % 8 ≡ 0 → ⊥) → Looking b a (p + t / 8 * 8) prev 0
+  pub look-past-used : p < a → (t : ℕ) → t ≡ wordAt w b p → p + t / 8 * 8 ≤ a → (t % 8 ≡ 0 → ⊥) → Looking w b a (p + t / 8 * 8) prev 0
   look-past-used l t e r z =
-      record { sound = k .sound; standing = λ L h. walk-used h (k .standing L h) t e (omega (arith, k .below)) z; from = r; below = k .below }
+      record { width = k .width; sound = k .sound; standing = λ L h. walk-used (k .width) h (k .standing L h) t e (omega (arith, k .below)) z; from = r; below = k .below }
 
-  pub look-end : a ≤ p → (L : Layout) → Here wide b L → Finds L a Nothing
-  look-end l L h = found-between h (k .standing L h) a (omega (arith, k .from))
+  pub look-end : a ≤ p → (L : Layout) → Here (shape w) b L → Finds w L a Nothing
+  look-end l L h = found-between (k .width) h (k .standing L h) a (omega (arith, k .from))

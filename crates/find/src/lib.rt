@@ -1,13 +1,18 @@
 // What is live at an address: found by one walk over the blocks below it, so that no payload and no stale word can pass for a tag.
+use model::Address;
 use model::Position;
-use model::START;
+use model::address_of;
+use model::class_in;
 use model::item_size;
 use model::items_in_page;
+use model::position_of;
+use model::start;
 use words::word;
 ghost use mathlib.Core.Path.{_≡_};
 ghost use Prim.Native.Nat.{_+_, _<_, _≤_};
 ghost use lib.ListN.{length};
-ghost use Rattle.model.specs.Shape.{wide};
+ghost use Rattle.words.specs.Width.{Width};
+ghost use Rattle.model.specs.Shape.{shape};
 ghost use Rattle.model.specs.Layout.{Layout};
 ghost use Rattle.model.specs.Sound.{Here, Sound};
 ghost use Rattle.find.specs.Find.{Finds, OnBlock, OnPage};
@@ -28,70 +33,80 @@ pub enum Live {
 }
 
 // The item whose payload begins at a, in the page at p.
-fn in_page(h: &[u8], p: usize, a: usize) -> Live
-    requires { ⌜ OnPage (now h) p a ⌝ }
-    ensures { λ r. ⌜ ((L : Layout) → Here wide (now (h .entry)) L → Finds L a r) ⌝ }
+fn in_page(w: usize, h: &[u8], p: Position, a: Address) -> Live
+    requires { ⌜ OnPage w (now h) (p .0) (a .0) ⌝ }
+    ensures { λ r. ⌜ ((L : Layout) → Here (shape w) (now (h .entry)) L → Finds w L (a .0) r) ⌝ }
 {
-    if a < p + 16 {
+    let first = address_of(w, Position(p.0 + w));
+    if a.0 < first.0 {
         return Live::Nothing;
     }
-    let c = word(h, p + 8) % 128 / 4;
-    let size = item_size(c);
-    let d = a - (p + 16);
+    let c = class_in(w, word(w, h, p.0 + w));
+    let size = item_size(w, c);
+    let d = a.0 - first.0;
     if d % size != 0 {
         return Live::Nothing;
     }
-    if items_in_page(c) <= d / size {
+    if items_in_page(w, c) <= d / size {
         return Live::Nothing;
     }
-    let q = a - 8;
-    if word(h, q) != 4 * c + 3 {
+    let q = position_of(w, a);
+    if word(w, h, q.0) != 4 * c + 3 {
         return Live::Nothing;
     }
-    Live::Item(Position(q), c)
+    Live::Item(q, c)
 }
 
 // What is live at a, in the block at p with the tag t that reaches past a.
-fn in_block(h: &[u8], p: usize, t: usize, prev: usize, left: usize, a: usize) -> Live
-    requires { ⌜ OnBlock (now h) p t prev left a ⌝ }
-    ensures { λ r. ⌜ ((L : Layout) → Here wide (now (h .entry)) L → Finds L a r) ⌝ }
+fn in_block(
+    w: usize,
+    h: &[u8],
+    p: Position,
+    t: usize,
+    prev: Position,
+    left: usize,
+    a: Address,
+) -> Live
+    requires { ⌜ OnBlock w (now h) (p .0) t (prev .0) left (a .0) ⌝ }
+    ensures { λ r. ⌜ ((L : Layout) → Here (shape w) (now (h .entry)) L → Finds w L (a .0) r) ⌝ }
 {
     if t % 8 == 0 {
         return Live::Nothing;
     }
     if t % 8 != 2 {
-        return in_page(h, p, a);
+        return in_page(w, h, p, a);
     }
-    if a != p + 8 {
+    if a.0 != address_of(w, p).0 {
         return Live::Nothing;
     }
     Live::Variable(Block {
-        at: Position(p),
+        at: p,
         size: t / 8 * 8,
-        prev: Position(prev),
+        prev: prev,
         left: left,
     })
 }
 
 // What is live at a.
-pub fn find(h: &[u8], a: usize) -> Live
-    requires { ⌜ Sound wide (now h) ⌝ }
-    ensures { λ r. ⌜ ((L : Layout) → Here wide (now (h .entry)) L → Finds L a r) ⌝ }
+pub fn find(w: usize, h: &[u8], a: Address) -> Live
+    requires { ⌜ Width w × Sound (shape w) (now h) ⌝ }
+    ensures { λ r. ⌜ ((L : Layout) → Here (shape w) (now (h .entry)) L → Finds w L (a .0) r) ⌝ }
 {
-    if a < START {
+    let data = start(w);
+    if a.0 < data {
         return Live::Nothing;
     }
-    if h.len() / 8 * 8 <= a {
+    if h.len() / 8 * 8 <= a.0 {
         return Live::Nothing;
     }
-    let mut p = START;
-    let mut prev = 0;
+    let mut p = Position(data);
+    let mut prev = Position(0);
     let mut left = 0;
-    while p < a {
-        let t = word(h, p);
-        let next = p + t / 8 * 8;
-        if a < next {
-            return in_block(h, p, t, prev, left, a);
+    while p.0 < a.0 {
+        let t = word(w, h, p.0);
+        let next = Position(p.0 + t / 8 * 8);
+        if a.0 < next.0 {
+            return in_block(w, h, p, t, prev, left, a);
         }
         if t % 8 == 0 {
             prev = p;

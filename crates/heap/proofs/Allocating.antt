@@ -28,14 +28,14 @@ module _ (n : ℕ) (b : List ℕ) (next : Outcome) where
   good-size l m = rw (le-leb 1 n l, le-leb n 1048576 m) refl
 
 -- what the engine gives is what the contract says
-gives-made : (b c : List ℕ) (L : Layout) (o : Option Made) (t : Taken) → Gives b L o t c → outcome (answerOf t) c ≡ made wide b o (λ m. drawn wide (m .layout) b)
+gives-made : (b c : List ℕ) (L : Layout) (o : Option Made) (t : Taken) → Gives 8 b L o t c → outcome (answerOf t) c ≡ made wide b o (λ m. drawn wide (m .layout) b)
 gives-made b c L o t g = rw (g .answer, g .bytes) (go o)
   where
-    go : (o : Option Made) → outcome (answerOf (takenOf o)) (bytesOf b o) ≡ made wide b o (λ m. drawn wide (m .layout) b)
+    go : (o : Option Made) → outcome (answerOf (takenOf o)) (bytesOf 8 b o) ≡ made wide b o (λ m. drawn wide (m .layout) b)
     go none = refl
     go (some m) = refl
 
-pub allocates : (b : List ℕ) (n : ℕ) (t : Taken) (r : Answer) (c : List ℕ) → 1 ≤ n → n ≤ 1048576 → Allocates b n t c → r ≡ answerOf t → (L : Layout) → Here wide b L
+pub allocates : (b : List ℕ) (n : ℕ) (t : Taken) (r : Answer) (c : List ℕ) → 1 ≤ n → n ≤ 1048576 → Allocates 8 b n t c → r ≡ answerOf t → (L : Layout) → Here wide b L
     → outcome r c ≡ sized wide n b (allocated wide b n L)
 allocates b n t r c l m g e L h =
     ap (λ (x : Answer). outcome x c) e ∙ gives-made b c L (allocate wide n L) t (g .is L h) ∙ sym (good-size n b (allocated wide b n L) l m)

@@ -51,7 +51,7 @@ module _ (b : List ℕ) (a : ℕ) (v : Verdict) (x : Examined b v) where
         within = λ z. absurd (z refl);
       }
 
-  module _ (e : v ≡ Fine) (n : ℕ) (h : Holds b a n) where
+  module _ (e : v ≡ Fine) (n : ℕ) (h : Holds 8 b a n) where
     pub held-none : n ≡ 0 → HeldTold b a (record { size = 0; refusal = notLive })
     held-none z =
         record {

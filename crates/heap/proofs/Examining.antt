@@ -8,6 +8,7 @@ use Rattle.model.specs.Shape.{wide}
 use Rattle.model.specs.Layout.{Layout}
 use Rattle.model.specs.Sound.{Here, Sound}
 use Rattle.model.specs.Calls.{Lent, Checked}
+use Rattle.model.proofs.Sizes.{eight}
 use Rattle.engine.specs.Ready.{Ready}
 use Rattle.sound.specs.Tells.{Tells}
 use Rattle.sound.proofs.Tellings.{clash}
@@ -66,6 +67,6 @@ module _ (b : List ℕ) where
         }
 
   -- what the engine then asks for
-  pub ready : (v : Verdict) → Examined b v → v ≡ Fine → Ready b
+  pub ready : (v : Verdict) → Examined b v → v ≡ Fine → Ready 8 b
   unfolding Examined
-  ready v x e = let y : Lent wide b × Sound wide b = rw e at x in record { sound = y .1; short = y .0 .1 }
+  ready v x e = let y : Lent wide b × Sound wide b = rw e at x in record { width = eight; sound = y .1; short = y .0 .1 }

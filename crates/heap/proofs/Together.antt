@@ -12,6 +12,7 @@ use Rattle.model.specs.Rules.{Found, block, thing, nothing, find, capacity}
 use Rattle.model.specs.Reading.{theEnd, Statistics, Step, ended, step}
 use Rattle.model.specs.Refusals.{notLive}
 use Rattle.model.specs.Calls.{Told, Lent, Opened, found, LooksUp, Steps, Counts, Tabulates}
+use Rattle.model.proofs.Sizes.{eight}
 use Rattle.model.proofs.Steps.{step-rises, step-stays}
 use Rattle.heap.specs.Counting.{TableTold}
 use Rattle.heap.specs.Lookup.{PartTold, RefusalTold}
@@ -67,7 +68,7 @@ module _ (b : List ℕ) (w : ℕ) (r : Told Step) (c : Steps wide b w r) where
     where
       rises : (L : Layout) → Here wide b L → r .answer ≡ step wide w L → (w + 32 ≤ r .answer .next) × (r .answer .next ≤ endOf (length b))
       rises L h e =
-          let z = step-rises (endOf (length b)) L w (h .valid) (λ k. n (ap (λ (s : Step). s .kind) e ∙ k)) in
+          let z = step-rises eight (endOf (length b)) L w (h .valid) (λ k. n (ap (λ (s : Step). s .kind) e ∙ k)) in
           let m : r .answer .next ≡ step wide w L .next = ap (λ (s : Step). s .next) e in
           (omega (arith, z .0, m), omega (arith, z .1, m))
 
@@ -87,4 +88,4 @@ module _ (b : List ℕ) (w : ℕ) (r : Told Step) (c : Steps wide b w r) where
       go (no m) =
           absurd
           (told-not (r .answer .next ≡ w) (λ e. m (ap (λ (s : Step). s .next) e))
-          (λ L h e. ap (λ (s : Step). s .next) (e ∙ step-stays L w (ap (λ (s : Step). s .kind) (sym e) ∙ k))) m)
+          (λ L h e. ap (λ (s : Step). s .next) (e ∙ step-stays eight L w (ap (λ (s : Step). s .kind) (sym e) ∙ k))) m)

@@ -1,5 +1,6 @@
 // Statistics, and the table of classes.
 use crate::Verdict;
+use crate::WORD;
 use crate::examine;
 use crate::refusal_number;
 use reading::counting::Statistics;
@@ -31,7 +32,7 @@ pub fn statistics(h: &[u8]) -> Counted
             }
         }
         Verdict::Fine => {
-            let s = count(h);
+            let s = count(WORD, h);
             Counted {
                 statistics: s,
                 refusal: 0,
@@ -47,6 +48,6 @@ pub fn class_table(h: &[u8]) -> [[u64; 3]; 32]
     let v = examine(h);
     match v {
         Verdict::Unfit(_) => [[0u64; 3]; 32],
-        Verdict::Fine => tabulate(h),
+        Verdict::Fine => tabulate(WORD, h),
     }
 }

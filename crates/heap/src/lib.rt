@@ -13,8 +13,8 @@ use engine::allocate as taking;
 use engine::free as giving;
 use model::Address;
 use model::LONGEST;
-use model::MAGIC;
 use model::SHORTEST;
+use model::magic;
 use resizing::resize as sizing;
 use sound::is_sound;
 use words::word;
@@ -24,6 +24,9 @@ ghost use Rattle.model.specs.Shape.{wide};
 ghost use Rattle.model.specs.Calls.{Lent, Initialises, Checks, Allocates, Frees, Resizes};
 ghost use Rattle.sound.specs.Tells.{Tells};
 ghost use Rattle.heap.specs.Answers.{Examined, answerOf, resizedAs, outcome, refusalNumber};
+
+// The bytes of a word of document 01's heap.
+const WORD: usize = 8;
 
 // Why a call says no, in the order of document 01's numbers, 1 to 7.
 pub enum Refusal {
@@ -80,10 +83,10 @@ pub fn initialise(h: &mut [u8]) -> Answer
     if !is_lent(h) {
         return Answer::Refused(Refusal::BadLength);
     }
-    if word(h, 0) == MAGIC {
+    if word(8, h, 0) == magic(WORD) {
         return Answer::Refused(Refusal::AlreadyOpened);
     }
-    fresh::lay(h);
+    fresh::lay(WORD, h);
     Answer::Granted(Address(0))
 }
 
@@ -94,10 +97,10 @@ fn examine(h: &[u8]) -> Verdict
     if !is_lent(h) {
         return Verdict::Unfit(Refusal::BadLength);
     }
-    if word(h, 0) != MAGIC {
+    if word(8, h, 0) != magic(WORD) {
         return Verdict::Unfit(Refusal::NotOpened);
     }
-    if !is_sound(h) {
+    if !is_sound(WORD, h) {
         return Verdict::Unfit(Refusal::NotSound);
     }
     Verdict::Fine
@@ -138,7 +141,7 @@ pub fn allocate(h: &mut [u8], n: usize) -> Answer
     if LONGEST < n {
         return Answer::Refused(Refusal::BadSize);
     }
-    let t = taking::allocate(h, n);
+    let t = taking::allocate(WORD, h, n);
     granted_or_not(t)
 }
 
@@ -150,7 +153,7 @@ pub fn free(h: &mut [u8], a: Address) -> Answer
     match v {
         Verdict::Unfit(k) => Answer::Refused(k),
         Verdict::Fine => {
-            let done = giving::free(h, a.0);
+            let done = giving::free(WORD, h, a);
             if done {
                 return Answer::Granted(Address(0));
             }
@@ -184,6 +187,6 @@ pub fn resize(h: &mut [u8], a: Address, n: usize) -> Answer
     if LONGEST < n {
         return Answer::Refused(Refusal::BadSize);
     }
-    let t = sizing::resize(h, a.0, n);
+    let t = sizing::resize(WORD, h, a, n);
     resized_or_not(t)
 }

@@ -1,5 +1,6 @@
 // The payload at a live address, as that very part of the lent heap.
 use crate::Verdict;
+use crate::WORD;
 use crate::examine;
 use crate::refusal_number;
 use model::Address;
@@ -12,8 +13,8 @@ struct Held {
     pub refusal: u64,
 }
 
-fn held_at(h: &[u8], a: usize) -> Held
-    ensures { λ r. ⌜ HeldTold (now (h .entry)) a r ⌝ }
+fn held_at(h: &[u8], a: Address) -> Held
+    ensures { λ r. ⌜ HeldTold (now (h .entry)) (a .0) r ⌝ }
 {
     let v = examine(h);
     match v {
@@ -25,7 +26,7 @@ fn held_at(h: &[u8], a: usize) -> Held
             }
         }
         Verdict::Fine => {
-            let n = capacity(h, a);
+            let n = capacity(WORD, h, a);
             if n == 0 {
                 return Held {
                     size: 0,
@@ -45,7 +46,7 @@ pub fn look_up(h: &[u8], a: Address) -> &[u8]
     ensures { λ r. ⌜ Part (h .entry) (a .0) r ⌝ }
 {
     let at = a.0;
-    let x = held_at(h, at);
+    let x = held_at(h, a);
     let n = x.size;
     if n == 0 {
         return &h[0..0];
@@ -58,7 +59,7 @@ pub fn look_up_mut(h: &mut [u8], a: Address) -> &mut [u8]
     ensures { λ r. ⌜ Part (h .entry) (a .0) r ⌝ }
 {
     let at = a.0;
-    let x = held_at(&*h, at);
+    let x = held_at(&*h, a);
     let n = x.size;
     if n == 0 {
         return &mut h[0..0];
@@ -70,6 +71,6 @@ pub fn look_up_mut(h: &mut [u8], a: Address) -> &mut [u8]
 pub fn look_up_refusal(h: &[u8], a: Address) -> u64
     ensures { λ r. ⌜ RefusalTold (now (h .entry)) (a .0) r ⌝ }
 {
-    let x = held_at(h, a.0);
+    let x = held_at(h, a);
     x.refusal
 }

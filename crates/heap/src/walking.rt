@@ -1,9 +1,10 @@
 // A walk over the blocks, by value: each step hands the next walk back with its answer.
 use crate::Verdict;
+use crate::WORD;
 use crate::examine;
 use crate::refusal_number;
 use model::Position;
-use model::START;
+use model::start;
 use reading::stepping::Block;
 use reading::stepping::meet;
 use reading::stepping::no_block;
@@ -30,7 +31,7 @@ impl Walk {
         ensures { λ r. ⌜ r .at .0 ≡ 312 ⌝ }
     {
         Walk {
-            at: Position(START),
+            at: Position(start(WORD)),
         }
     }
 
@@ -52,7 +53,7 @@ impl Walk {
                 }
             }
             Verdict::Fine => {
-                let b = meet(h, at);
+                let b = meet(WORD, h, here);
                 let next = at + b.size;
                 Step {
                     block: b,

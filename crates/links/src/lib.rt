@@ -1,64 +1,76 @@
 // The words by which free blocks are linked.
-use model::FIRST_FREE;
+use model::Position;
+use model::first_free;
 use words::put_word;
 use words::word;
 ghost use mathlib.Core.Path.{_≡_};
-ghost use Prim.Native.Nat.{_+_, _<_, _≤_, _^_};
+ghost use Prim.Native.Nat.{_+_, _*_, _<_, _≤_, _^_};
 ghost use lib.ListN.{length};
-ghost use Rattle.model.specs.Shape.{wide};
+ghost use Rattle.words.specs.Width.{Width};
+ghost use Rattle.model.specs.Shape.{shape};
 ghost use Rattle.model.specs.Picture.{draw};
 ghost use Rattle.model.proofs.Middle.{linkOf, backOf, putIf};
 ghost use Rattle.links.specs.Links.{BackRoom, FreeRoom, LinkRoom, freeWords, linkedBytes};
 
 // Where the link to what follows the free block at prev stands: in that block, or in the header where prev is 0.
-pub fn link_at(prev: usize) -> usize
-    requires { ⌜ prev + 8 < 2 ^ 64 ⌝ }
-    ensures { λ r. ⌜ r ≡ linkOf wide prev ⌝ }
+pub fn link_at(w: usize, prev: Position) -> Position
+    requires { ⌜ Width w × (prev .0 + w < 2 ^ 64) ⌝ }
+    ensures { λ r. ⌜ r .0 ≡ linkOf (shape w) (prev .0) ⌝ }
 {
-    if prev == 0 { FIRST_FREE } else { prev + 8 }
+    if prev.0 == 0 {
+        return Position(first_free(w));
+    }
+    Position(prev.0 + w)
 }
 
 // Where the free block at next has its link back, or 0 where next is 0.
-pub fn back_at(h: &[u8], next: usize) -> usize
-    requires { ⌜ BackRoom (now h) next ⌝ }
-    ensures { λ r. ⌜ r ≡ backOf wide (now (h .entry)) next ⌝ }
+pub fn back_at(w: usize, h: &[u8], next: Position) -> Position
+    requires { ⌜ BackRoom w (now h) (next .0) ⌝ }
+    ensures { λ r. ⌜ r .0 ≡ backOf (shape w) (now (h .entry)) (next .0) ⌝ }
 {
-    if next == 0 {
-        return 0;
+    if next.0 == 0 {
+        return Position(0);
     }
-    let s = word(h, next);
-    next + s - 16
+    let s = word(w, h, next.0);
+    Position(next.0 + s - 2 * w)
 }
 
-// v is written at a position, unless that is 0.
-pub fn put_if(h: &mut [u8], at: usize, v: usize)
-    requires { ⌜ at + 8 ≤ length (now h) ⌝ }
-    ensures { λ _. ⌜ now (h .exit) ≡ putIf wide (now (h .entry)) at v ⌝ }
+// The position v is written at another, unless that is 0.
+pub fn put_if(w: usize, h: &mut [u8], at: Position, v: Position)
+    requires { ⌜ Width w × (at .0 + w ≤ length (now h)) ⌝ }
+    ensures { λ _. ⌜ now (h .exit) ≡ putIf (shape w) (now (h .entry)) (at .0) (v .0) ⌝ }
 {
-    if at != 0 {
-        put_word(h, at, v);
+    if at.0 != 0 {
+        put_word(w, h, at.0, v.0);
     }
 }
 
 // A free block of size s at p, between the free blocks at prev and next.
-pub fn put_free(h: &mut [u8], p: usize, s: usize, prev: usize, next: usize)
-    requires { ⌜ FreeRoom (length (now h)) p s ⌝ }
-    ensures { λ _. ⌜ now (h .exit) ≡ draw 8 (freeWords p s prev next) (now (h .entry)) ⌝ }
+pub fn put_free(w: usize, h: &mut [u8], p: Position, s: usize, prev: Position, next: Position)
+    requires { ⌜ FreeRoom w (length (now h)) (p .0) s ⌝ }
+    ensures { λ _. ⌜ now (h .exit) ≡ draw w (freeWords w (p .0) s (prev .0) (next .0)) (now (h .entry)) ⌝ }
 {
-    put_word(h, p, s);
-    put_word(h, p + 8, next);
-    put_word(h, p + s - 16, prev);
-    put_word(h, p + s - 8, s);
+    put_word(w, h, p.0, s);
+    put_word(w, h, p.0 + w, next.0);
+    put_word(w, h, p.0 + s - 2 * w, prev.0);
+    put_word(w, h, p.0 + s - w, s);
 }
 
 // A free block from `from` to `to`, with the links of the free blocks before and behind it.
-pub fn put_linked(h: &mut [u8], from: usize, to: usize, before: usize, behind: usize)
-    requires { ⌜ LinkRoom (now h) from to before behind ⌝ }
-    ensures { λ _. ⌜ now (h .exit) ≡ linkedBytes (now (h .entry)) from to before behind ⌝ }
+pub fn put_linked(
+    w: usize,
+    h: &mut [u8],
+    from: Position,
+    to: Position,
+    before: Position,
+    behind: Position,
+)
+    requires { ⌜ LinkRoom w (now h) (from .0) (to .0) (before .0) (behind .0) ⌝ }
+    ensures { λ _. ⌜ now (h .exit) ≡ linkedBytes w (now (h .entry)) (from .0) (to .0) (before .0) (behind .0) ⌝ }
 {
-    let link = link_at(before);
-    let back = back_at(h, behind);
-    put_word(h, link, from);
-    put_free(h, from, to - from, before, behind);
-    put_if(h, back, from);
+    let link = link_at(w, before);
+    let back = back_at(w, h, behind);
+    put_word(w, h, link.0, from.0);
+    put_free(w, h, from, to.0 - from.0, before, behind);
+    put_if(w, h, back, from);
 }

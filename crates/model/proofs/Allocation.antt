@@ -8,7 +8,8 @@ use native.Mathlib.Omega.{arith}
 use native.Mathlib.Decide.{decLe}
 use lib.ListN.{getD}
 use borrow.Author.Tests.{le-leb, lt-leb}
-use Rattle.model.specs.Shape.{Shape, wide, up8, tags, largest, classOf, needOf, pageNeed, itemAt}
+use Rattle.words.specs.Width.{Width}
+use Rattle.model.specs.Shape.{Shape, shape, up8, tags, largest, classOf, needOf, pageNeed, itemAt}
 use Rattle.model.specs.Layout.{Layout}
 use Rattle.model.specs.Sound.{Valid}
 use Rattle.model.specs.Rules.{Spot, Made, fit, paged, fromList, fromPage, anItem, aBlock, allocate, spotAt}
@@ -17,6 +18,7 @@ use Rattle.model.proofs.Pop.{pop-valid}
 use Rattle.model.proofs.Spots.{Split, fit-some}
 use Rattle.model.proofs.Taken.{takes-of}
 use Rattle.model.proofs.Placed.{placed-valid}
+use Rattle.model.proofs.Sizes.{page-eight}
 use Rattle.model.proofs.Paged.{paged-valid}
 use Rattle.model.proofs.Lives.{Adds, placed-adds, placedPayload, paged-live}
 use Rattle.model.proofs.ItemLives.{itemPayload, popped-adds}
@@ -27,8 +29,8 @@ pub record Even (S : Shape) : Type 0 where
   pub tags : tags S % 8 ≡ 0
   pub pages : (c : ℕ) → pageNeed S c % 8 ≡ 0
 
-pub even-wide : Even wide
-even-wide = record { word = omega arith; tags = omega arith; pages = λ c. omega arith }
+pub even : {w : ℕ} → Width w → Even (shape w)
+even wd = record { word = omega arith; tags = omega arith; pages = page-eight wd }
 
 -- a size above a multiple of 8 is rounded up to the next at least
 pub up-above : (k n : ℕ) → 8 * k < n → 8 * k + 8 ≤ up8 n

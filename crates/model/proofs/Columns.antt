@@ -1,5 +1,5 @@
--- The columns of the table of classes add up to the statistics. (At document 01's shape.)
-use Prim.Native.Nat.{ℕ, zero, suc, _+_, _≤_, _<_}
+-- The columns of the table of classes add up to the statistics.
+use Prim.Native.Nat.{ℕ, zero, suc, _+_, _≤_, _<_, _*_}
 use mathlib.Core.Path.{_≡_, refl, ap, _∙_}
 use mathlib.Core.Bool.{cond}
 use mathlib.Core.List.{List, [], _∷_}
@@ -7,7 +7,8 @@ use native.Mathlib.Omega.{arith}
 use native.Mathlib.Decide.{ℕ-discrete}
 use lib.Dec.{eqb}
 use borrow.Author.Tests.{eq-eqb, ne-eqb}
-use Rattle.model.specs.Shape.{wide}
+use Rattle.words.specs.Width.{Width}
+use Rattle.model.specs.Shape.{shape}
 use Rattle.model.specs.Layout.{Slot, variable, page, Block, free, used}
 use Rattle.model.specs.Sound.{Allowed, AllowedUse, AllAllowed}
 use Rattle.model.specs.Reading.{total, heldIn, ofBlock, ofPage, counted, row, rowsFrom}
@@ -44,32 +45,33 @@ sum-one c v (suc n) d l m = go (ℕ-discrete c d) (sum-one c v n (d + 1))
     go (no k) r = rw (ne-eqb c d k) (omega (arith, r (omega arith) (omega arith)))
 
 -- a number of pages, class by class and over all classes
-module _ (g : ℕ → List Slot → ℕ) where
-  ofClass : ℕ → Block → ℕ
-  ofClass d = ofPage (λ c ss. cond (eqb c d) (g c ss) 0)
+module _ {w : ℕ} (wd : Width w) where
+  module _ (g : ℕ → List Slot → ℕ) where
+    ofClass : ℕ → Block → ℕ
+    ofClass d = ofPage (λ c ss. cond (eqb c d) (g c ss) 0)
 
-  block-sum : (x : Block) → Allowed wide x → sumOf (λ d. ofClass d x) 32 0 ≡ ofPage g x
-  unfolding ofClass ofBlock Allowed AllowedUse
-  block-sum (free s) a = sum-zero 32 0
-  block-sum (used (variable s)) a = sum-zero 32 0
-  block-sum (used (page c k ss)) a = sum-one c (g c ss) 32 0 (omega arith) (omega (arith, a .0))
+    block-sum : (x : Block) → Allowed (shape w) x → sumOf (λ d. ofClass d x) (4 * w) 0 ≡ ofPage g x
+    unfolding ofClass ofBlock Allowed AllowedUse
+    block-sum (free s) a = sum-zero (4 * w) 0
+    block-sum (used (variable s)) a = sum-zero (4 * w) 0
+    block-sum (used (page c k ss)) a = sum-one c (g c ss) (4 * w) 0 (omega arith) (omega (arith, a .0))
 
-  total-sum : (bs : List Block) → AllAllowed wide bs → sumOf (λ d. total (ofClass d) bs) 32 0 ≡ total (ofPage g) bs
-  unfolding total AllAllowed
-  total-sum [] a = sum-zero 32 0
-  total-sum (x ∷ bs) a = sum-plus (λ d. ofClass d x) (λ d. total (ofClass d) bs) 32 0 ∙ omega (arith, block-sum x (a .0), total-sum bs (a .1))
+    total-sum : (bs : List Block) → AllAllowed (shape w) bs → sumOf (λ d. total (ofClass d) bs) (4 * w) 0 ≡ total (ofPage g) bs
+    unfolding total AllAllowed
+    total-sum [] a = sum-zero (4 * w) 0
+    total-sum (x ∷ bs) a = sum-plus (λ d. ofClass d x) (λ d. total (ofClass d) bs) (4 * w) 0 ∙ omega (arith, block-sum x (a .0), total-sum bs (a .1))
 
-column-pages : (n d : ℕ) (bs : List Block) → column 0 (rowsFrom n d bs) ≡ sumOf (λ d. total (ofClass (λ c ss. 1) d) bs) n d
-unfolding column rowsFrom row sumOf ofClass
-column-pages zero d bs = refl
-column-pages (suc n) d bs = ap (λ (x : ℕ). total (ofClass (λ c ss. 1) d) bs + x) (column-pages n (d + 1) bs)
+  column-pages : (n d : ℕ) (bs : List Block) → column 0 (rowsFrom n d bs) ≡ sumOf (λ d. total (ofClass (λ c ss. 1) d) bs) n d
+  unfolding column rowsFrom row sumOf ofClass
+  column-pages zero d bs = refl
+  column-pages (suc n) d bs = ap (λ (x : ℕ). total (ofClass (λ c ss. 1) d) bs + x) (column-pages n (d + 1) bs)
 
-column-items : (n d : ℕ) (bs : List Block) → column 1 (rowsFrom n d bs) ≡ sumOf (λ d. total (ofClass (λ c ss. heldIn ss) d) bs) n d
-unfolding column rowsFrom row sumOf ofClass
-column-items zero d bs = refl
-column-items (suc n) d bs = ap (λ (x : ℕ). total (ofClass (λ c ss. heldIn ss) d) bs + x) (column-items n (d + 1) bs)
+  column-items : (n d : ℕ) (bs : List Block) → column 1 (rowsFrom n d bs) ≡ sumOf (λ d. total (ofClass (λ c ss. heldIn ss) d) bs) n d
+  unfolding column rowsFrom row sumOf ofClass
+  column-items zero d bs = refl
+  column-items (suc n) d bs = ap (λ (x : ℕ). total (ofClass (λ c ss. heldIn ss) d) bs + x) (column-items n (d + 1) bs)
 
-pub columns-add : ColumnsAdd wide
-unfolding counted
-columns-add end L v =
-    (column-pages 32 0 (L .blocks) ∙ total-sum (λ c ss. 1) (L .blocks) (v .allowed), column-items 32 0 (L .blocks) ∙ total-sum (λ c ss. heldIn ss) (L .blocks) (v .allowed))
+  pub columns-add : ColumnsAdd (shape w)
+  unfolding counted
+  columns-add end L v =
+      (column-pages (4 * w) 0 (L .blocks) ∙ total-sum (λ c ss. 1) (L .blocks) (v .allowed), column-items (4 * w) 0 (L .blocks) ∙ total-sum (λ c ss. heldIn ss) (L .blocks) (v .allowed))

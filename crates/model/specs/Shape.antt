@@ -1,5 +1,7 @@
 -- The numbers in which one console's heap differs from another's, and what follows from them. All else is the same for every shape.
 use Prim.Native.Nat.{ℕ, _+_, _-_, _*_, _/_}
+use mathlib.Core.Bool.{cond}
+use lib.Dec.{eqb}
 
 pub record Shape : Type 0 where
   -- the bytes of a word
@@ -13,9 +15,20 @@ pub record Shape : Type 0 where
   -- the magic number, as its eight bytes make one word
   pub magic : ℕ
 
+-- the heap with words of w bytes: document 01's at 8, the hand unit's at 4
+abbrev pub shape : ℕ → Shape
+shape w =
+    record {
+      word = w;
+      classes = 4 * w;
+      perPage = λ c. cond (eqb w 8) (4096 / (8 * c + 16) + 1) 2;
+      most = cond (eqb w 8) 1048576 65536;
+      magic = cond (eqb w 8) 0x01636f6c6c617978 0x02636f6c6c617978;
+    }
+
 -- document 01's heap
 abbrev pub wide : Shape
-wide = record { word = 8; classes = 32; perPage = λ c. 4096 / (8 * c + 16) + 1; most = 1048576; magic = 0x01636f6c6c617978 }
+wide = shape 8
 
 -- the end of a heap of n bytes: n rounded down to a multiple of 8; and n rounded up to one
 abbrev pub endOf : ℕ → ℕ

@@ -15,12 +15,13 @@ use Rattle.model.specs.Rules.{Made, Found, block, thing, nothing, allocate, fin
 use Rattle.model.specs.Refusals.{notLive}
 use Rattle.model.specs.Calls.{Outcome, refused, granted, Lent, drawn, sized, found, allocated, without}
 use Rattle.model.specs.Promises.{Call, initialising, checking, allocating, freeing, resizing, Comes, Plain}
+use Rattle.model.proofs.Sizes.{eight}
 use Rattle.model.proofs.Pictures as pictures
 use Rattle.model.proofs.Pictures.{length-draw, bytes-draw}
 use Rattle.model.proofs.Drawn.{drawn-here}
 use Rattle.model.proofs.LiveFound.{isThere}
 use Rattle.model.proofs.FreeLives.{freed-removes}
-use Rattle.model.proofs.Allocation.{even-wide, allocate-grants}
+use Rattle.model.proofs.Allocation.{even, allocate-grants}
 use Rattle.model.proofs.OnLayouts.{Done, doing}
 
 -- an outcome is what was done on the layout; where that stays, so does every byte
@@ -63,7 +64,7 @@ module _ (b : List ℕ) (L : Layout) (l : Lent wide b) (h : Here wide b L) where
       go (yes i) (no j) o e = rw (le-leb 1 n i, lt-leb n 1048576 (omega arith)) (left _ _)
       go (yes i) (yes j) none e = rw (le-leb 1 n i, le-leb n 1048576 j, e) (left _ _)
       go (yes i) (yes j) (some m) e =
-          let g = allocate-grants wide (endOf (length b)) n even-wide L m (h .valid) i e in
+          let g = allocate-grants wide (endOf (length b)) n (even eight) L m (h .valid) i e in
           rw (le-leb 1 n i, le-leb n 1048576 j, e) (drew _ (m .layout) (g .valid))
 
   freed-valid : (a : ℕ) (f : Found) → find wide a L ≡ f → isThere f ≡ 1 → Valid wide (endOf (length b)) (freed wide f L)

@@ -13,10 +13,11 @@ use Rattle.model.specs.Shape.{wide, item, pageNeed, endOf}
 use Rattle.model.specs.Picture.{Word, Shows}
 use Rattle.model.specs.Layout.{Slot, idle, held, Use, variable, page, Block, free, used, Layout, ifFree, useSize, sizeOf, ends, words}
 use Rattle.model.specs.Sound.{times, Apart, AllowedUse, Allowed, AllAllowed, idleItems, Valid, Here, Sound}
+use Rattle.model.proofs.Sizes.{eight}
 use Rattle.model.proofs.Blocks.{le-ends}
 use Rattle.sound.specs.Runs.{Slots, flagOf, Headers, Reads}
 use Rattle.sound.specs.Lists.{named, Chain, Chains}
-use Rattle.sound.proofs.MapLaws.{remove, remove-length, remove-times}
+use Rattle.sound.proofs.MapLaws.{fewer}
 use Rattle.sound.proofs.Pages.{classAt, page-class}
 use Rattle.sound.proofs.Walks.{use-size, use-flag}
 use Rattle.sound.proofs.HereFilled.{here-reads, here-chains}
@@ -24,12 +25,7 @@ use Rattle.promises.proofs.Stable.{numbers}
 
 -- two lists in which every number stands as often are as long
 same-length : (l m : List ℕ) → ((x : ℕ) → times x l ≡ times x m) → length l ≡ length m
-unfolding times
-same-length [] [] h = refl
-same-length [] (y ∷ m) h = absurd (omega (arith, rw (eq-eqb y y refl) at (h y)))
-same-length (x ∷ l) m h =
-    let k : 1 ≤ times x m = omega (arith, rw (eq-eqb x x refl) at (h x)) in
-    omega (arith, remove-length x m k, same-length l (remove x m) (λ z. omega (arith, h z, remove-times x z m k)))
+same-length l m h = omega (arith, fewer l m (λ x. omega (arith, h x)), fewer m l (λ x. omega (arith, h x)))
 
 module _ (b : List ℕ) where
   -- n items of class c from p on
@@ -37,7 +33,7 @@ module _ (b : List ℕ) where
   slotsAt c p zero = []
   slotsAt c p (suc n) = cond (eqb (wordAt 8 b p % 4) 1) idle held ∷ slotsAt c (p + item wide c) n
 
-  slots-are : (c p : ℕ) (ss : List Slot) → Slots b c p ss → slotsAt c p (length ss) ≡ ss
+  slots-are : (c p : ℕ) (ss : List Slot) → Slots 8 b c p ss → slotsAt c p (length ss) ≡ ss
   unfolding Slots slotsAt
   slots-are c p [] h = refl
   slots-are c p (idle ∷ ss) h = rw (eq-eqb (wordAt 8 b p % 4) 1 (omega (arith, h .0)), slots-are c (p + item wide c) ss (h .1))
@@ -47,24 +43,24 @@ module _ (b : List ℕ) where
   unfoldable pageAt : ℕ → ℕ → ℕ → Use
   pageAt c p t = page c (t - 3 - pageNeed wide c) (slotsAt c (p + 8) (wide .perPage c))
 
-  page-is : (c k p t : ℕ) (ss : List Slot) → Slots b c (p + 8) ss → length ss ≡ wide .perPage c → t ≡ 16 + length ss * item wide c + k + 3 → pageAt c p t ≡ page c k ss
+  page-is : (c k p t : ℕ) (ss : List Slot) → Slots 8 b c (p + 8) ss → length ss ≡ wide .perPage c → t ≡ 16 + length ss * item wide c + k + 3 → pageAt c p t ≡ page c k ss
   unfolding pageAt
   page-is c k p t ss h n f =
       ap₂ (λ (x : ℕ) (y : List Slot). page c x y) (omega (arith, f, ap (λ (x : ℕ). x * item wide c) n))
       (ap (λ (x : ℕ). slotsAt c (p + 8) x) (sym n) ∙ slots-are c (p + 8) ss h)
 
   unfoldable useAt : ℕ → ℕ → Use
-  useAt p t = cond (eqb (t % 8) 2) (variable (t - 2)) (pageAt (classAt b p) p t)
+  useAt p t = cond (eqb (t % 8) 2) (variable (t - 2)) (pageAt (classAt 8 b p) p t)
 
-  use-is : (p t : ℕ) (u : Use) → AllowedUse wide u → Headers b p u → t ≡ useSize wide u + flagOf u → useAt p t ≡ u
+  use-is : (p t : ℕ) (u : Use) → AllowedUse wide u → Headers 8 b p u → t ≡ useSize wide u + flagOf u → useAt p t ≡ u
   unfolding useAt Headers flagOf AllowedUse useSize
   use-is p t (variable s) a h e =
       let f : t ≡ s + 2 = e in
       let g : s % 8 ≡ 0 = a .1 in
       rw (eq-eqb (t % 8) 2 (omega (arith, f, g))) (ap (λ (x : ℕ). variable x) (omega (arith, f)))
   use-is p t (page c k ss) a h e =
-      let z = use-size (page c k ss) a in
-      rw (ne-eqb (t % 8) 2 (λ f. omega (arith, f, e, z .1)), ← page-class b c k p ss a h) (page-is c k p t ss h (a .1) e)
+      let z = use-size eight (page c k ss) a in
+      rw (ne-eqb (t % 8) 2 (λ f. omega (arith, f, e, z .1)), ← page-class eight b c k p ss a h) (page-is c k p t ss h (a .1) e)
 
   -- blocks from p to the end, at most so many
   unfoldable blockAt : ℕ → ℕ → Block
@@ -76,7 +72,7 @@ module _ (b : List ℕ) where
       let c : Block = blockAt p (wordAt 8 b p) in
       cond (leb end p) [] (c ∷ blocksAt n (p + sizeOf wide c) end)
 
-  blocks-are : (n p prev end : ℕ) (bs : List Block) → Reads b p prev bs → AllAllowed wide bs → ends wide p bs ≡ end → end < p + n → blocksAt n p end ≡ bs
+  blocks-are : (n p prev end : ℕ) (bs : List Block) → Reads 8 b p prev bs → AllAllowed wide bs → ends wide p bs ≡ end → end < p + n → blocksAt n p end ≡ bs
   unfolding Reads AllAllowed Allowed ends sizeOf blocksAt blockAt
   blocks-are zero p prev end bs r a e l = absurd (omega (arith, le-ends wide p bs))
   blocks-are (suc n) p prev end [] r a e l = rw (le-leb end p (omega arith)) refl
@@ -85,7 +81,7 @@ module _ (b : List ℕ) where
       let i : p + s ≤ end = omega (arith, e, le-ends wide (p + s) bs) in
       rw (lt-leb end p (omega (arith, a .0 .0)), k) (ap (λ (l : List Block). free s ∷ l) (blocks-are n (p + s) p end bs (r .1) (a .1) e (omega (arith, a .0 .0))))
   blocks-are (suc n) p prev end (used u ∷ bs) r a e l =
-      let z = use-size u (a .0) in
+      let z = use-size eight u (a .0) in
       let f = use-flag u in
       let k : blockAt p (wordAt 8 b p) ≡ used u =
       rw (ne-eqb (wordAt 8 b p % 8) 0 (λ g. omega (arith, g, r .0 .0, z .1, f .0, f .1)), use-is p (wordAt 8 b p) u (a .0) (r .0 .2) (r .0 .0)) refl in
@@ -95,19 +91,19 @@ module _ (b : List ℕ) where
   -- a list from o on, of so many items
   unfoldable listAt : ℕ → ℕ → List ℕ
   listAt zero o = []
-  listAt (suc n) o = o ∷ listAt n (named b o)
+  listAt (suc n) o = o ∷ listAt n (named 8 b o)
 
-  list-is : (end c o : ℕ) (l : List ℕ) → Chain b end c o l → listAt (length l) o ≡ l
+  list-is : (end c o : ℕ) (l : List ℕ) → Chain 8 b end c o l → listAt (length l) o ≡ l
   unfolding Chain listAt
   list-is end c o [] h = refl
-  list-is end c o (x ∷ xs) h = rw (h .0) (ap (λ (l : List ℕ). x ∷ l) (list-is end c (named b x) xs (h .2)))
+  list-is end c o (x ∷ xs) h = rw (h .0) (ap (λ (l : List ℕ). x ∷ l) (list-is end c (named 8 b x) xs (h .2)))
 
   -- the lists of n classes from c on, of blocks bs
   unfoldable listsAt : List Block → ℕ → ℕ → List (List ℕ)
   listsAt bs c zero = []
   listsAt bs c (suc n) = listAt (length (idleItems wide c 312 bs)) (wordAt 8 b (48 + 8 * c)) ∷ listsAt bs (c + 1) n
 
-  lists-are : (end : ℕ) (bs : List Block) (c : ℕ) (ls : List (List ℕ)) → Chains b end c ls → ((d x : ℕ) → c + d < 32 → times x (getD ls d []) ≡ times x (idleItems wide (c + d) 312 bs)) → listsAt bs c (length ls) ≡ ls
+  lists-are : (end : ℕ) (bs : List Block) (c : ℕ) (ls : List (List ℕ)) → Chains 8 b end c ls → ((d x : ℕ) → c + d < 32 → times x (getD ls d []) ≡ times x (idleItems wide (c + d) 312 bs)) → listsAt bs c (length ls) ≡ ls
   unfolding Chains listsAt
   lists-are end bs c [] h k = refl
   lists-are end bs c (l ∷ ls) h k =
@@ -129,10 +125,10 @@ module _ (b : List ℕ) where
   pub decoded-is : (L : Layout) → Here wide b L → decoded ≡ L
   unfolding decoded decodedBlocks
   decoded-is L h =
-      let e = blocks-are (suc (endOf (length b))) 312 0 (endOf (length b)) (L .blocks) (here-reads b L h) (h .valid .allowed) (h .valid .fills) (omega arith) in
+      let e = blocks-are (suc (endOf (length b))) 312 0 (endOf (length b)) (L .blocks) (here-reads eight b L h) (h .valid .allowed) (h .valid .fills) (omega arith) in
       let f : listsAt (L .blocks) 0 32 ≡ L .lists =
       ap (λ (n : ℕ). listsAt (L .blocks) 0 n) (sym (h .valid .classes))
-      ∙ lists-are (endOf (length b)) (L .blocks) 0 (L .lists) (here-chains b L h) (λ d x i. let z : 0 + d ≡ d = omega arith in rw z (h .valid .listed d x (omega arith))) in
+      ∙ lists-are (endOf (length b)) (L .blocks) 0 (L .lists) (here-chains eight b L h) (λ d x i. let z : 0 + d ≡ d = omega arith in rw z (h .valid .listed d x (omega arith))) in
       ap₂ (λ (x : List Block) (y : List (List ℕ)). record { blocks = x; lists = y }) e (ap (λ (x : List Block). listsAt x 0 32) e ∙ f)
 
 -- what cannot fail holds

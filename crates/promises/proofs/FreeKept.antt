@@ -13,6 +13,7 @@ use Rattle.model.specs.Live.{_∈_, Payload, live}
 use Rattle.model.specs.Refusals.{notLive}
 use Rattle.model.specs.Calls.{Outcome, refused, granted, drawn, found, without}
 use Rattle.model.specs.Promises.{Comes, Kept, FreeKeeps}
+use Rattle.model.proofs.Sizes.{eight}
 use Rattle.model.proofs.Payloads.{content-kept}
 use Rattle.sound.proofs.OneLayout.{one-layout}
 use Rattle.promises.proofs.Answers.{draws}
@@ -45,7 +46,7 @@ free-keeps b a r L M g = go (find wide a L) refl
     freed-kept f e n s =
         let k = freed-removes wide (omega arith) (omega arith) (g .here .valid) a f e n in
         let h : Here wide (r .heap) (freed wide f L) = subst (λ (o : Outcome). Here wide (o .heap) (freed wide f L)) (sym s) (draws b L (g .lent) (g .here) (freed wide f L) (k .valid)) in
-        subst (λ (N : Layout). FreeKept b a L r N) (one-layout (r .heap) (freed wide f L) M h (g .then))
+        subst (λ (N : Layout). FreeKept b a L r N) (one-layout eight (r .heap) (freed wide f L) M h (g .then))
         (subst (λ (o : Outcome). FreeKept b a L o (freed wide f L)) (sym s) (removed-kept b a L f k))
 
     go : (f : Found) → find wide a L ≡ f → FreeKept b a L r M

@@ -17,8 +17,9 @@ use Rattle.model.specs.Rules.{Made, Found, nothing, allocate, find, capacity}
 use Rattle.model.specs.Live.{_∈_, Payload, content, live}
 use Rattle.model.specs.Calls.{Outcome, granted, Lent, drawn, without}
 use Rattle.model.specs.Promises.{Kept, OnlyNew}
+use Rattle.model.proofs.Sizes.{eight}
 use Rattle.model.proofs.Payloads.{in-area, content-kept}
-use Rattle.model.proofs.Allocation.{even-wide, Granted, allocate-grants}
+use Rattle.model.proofs.Allocation.{even, Granted, allocate-grants}
 use Rattle.model.proofs.Written.{kept-here}
 use Rattle.promises.proofs.Answers.{Does, draws, drawn-length, drawn-bytes}
 use Rattle.model.proofs.LiveFound.{isThere, live-found, live-apart}
@@ -50,7 +51,7 @@ found-size end L a f r x h e =
 
 module _ (b : List ℕ) (L : Layout) (l : Lent wide b) (h : Here wide b L) (a n : ℕ) (one : 1 ≤ n) (m : Made) (fm : allocate wide n L ≡ some m) (live-there : isThere (find wide a L) ≡ 1) where
   new : Granted wide (endOf (length b)) n L m
-  new = allocate-grants wide (endOf (length b)) n even-wide L m (h .valid) one fm
+  new = allocate-grants wide (endOf (length b)) n (even eight) L m (h .valid) one fm
 
   was : Removed wide (endOf (length b)) L a (find wide a L)
   was = freed-removes wide (omega arith) (omega arith) (h .valid) a (find wide a L) refl (is-there (find wide a L) live-there)

@@ -14,6 +14,7 @@ use Rattle.model.specs.Sound.{Here}
 use Rattle.model.specs.Rules.{fresh}
 use Rattle.model.specs.Calls.{Outcome, Lent, Opened, drawn, Initialises}
 use Rattle.model.specs.Promises.{OpensSound}
+use Rattle.model.proofs.Sizes.{eight}
 use Rattle.model.proofs.Pictures.{length-draw, bytes-draw}
 use Rattle.model.proofs.Fresh.{fresh-here}
 
@@ -31,7 +32,7 @@ module _ (b : List ℕ) (r : Outcome) (c : Initialises wide b r) (g : r .refusal
       let k = length-put 8 b 0 (wide .magic) in
       let e : r .heap ≡ drawn wide (fresh wide (endOf (length b))) d = ap (λ (o : Outcome). o .heap) (c .opens l n) in
       let h : Here wide (draw 8 (words wide (endOf (length d)) (fresh wide (endOf (length d)))) d) (fresh wide (endOf (length d))) =
-      fresh-here d (word-same 8 b 0 (wide .magic) (omega (arith, l .0)) (omega arith)) (omega (arith, l .0, k)) (omega (arith, l .1, k)) in
+      fresh-here eight d (word-same 8 b 0 (wide .magic) (omega (arith, l .0)) (omega arith)) (omega (arith, l .0, k)) (omega (arith, l .1, k)) in
       let m : Here wide (draw 8 (words wide (endOf (length d)) (fresh wide (endOf (length b)))) d) (fresh wide (endOf (length b))) =
       subst (λ (x : ℕ). Here wide (draw 8 (words wide (endOf (length d)) (fresh wide (endOf x))) d) (fresh wide (endOf x))) k h in
       record {

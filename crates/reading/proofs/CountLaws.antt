@@ -12,22 +12,22 @@ use Rattle.reading.specs.declared.counting.Page.{Page}
 use Rattle.reading.specs.Counting.{PageAt, PageTold, Going}
 use Rattle.reading.proofs.ReadingLaws.{going-some, going-free, going-variable, going-page}
 
-module _ {b : List ℕ} {p : ℕ} {v : Statistics} (g : Going counted b p v) where
+module _ {w : ℕ} {b : List ℕ} {p : ℕ} {v : Statistics} (g : Going w counted b p v) where
   pub count-small : (v .freeBytes ≤ p) × (v .freeBlocks ≤ p) × (v .variables ≤ p) × (v .pages ≤ p) × (v .items ≤ p)
   count-small =
       let s = going-some counted g in
-      let z = counted-below p (s .pre) (s .allowed) (s .begins) v (s .so-far) in
+      let z = counted-below (g .width) p (s .pre) (s .allowed) (s .begins) v (s .so-far) in
       (z .free-bytes, z .free-blocks, z .variables, z .pages, z .items)
 
-  module _ (t : ℕ) (e : t ≡ wordAt 8 b p) (l : p < endOf (length b)) where
+  module _ (t : ℕ) (e : t ≡ wordAt w b p) (l : p < endOf (length b)) where
     pub count-free : t % 8 ≡ 0 → (m : ℕ) → m ≡ max (v .largestFree) (t / 8 * 8)
-        → Going counted b (p + t / 8 * 8) (record { freeBytes = v .freeBytes + t / 8 * 8; freeBlocks = v .freeBlocks + 1; largestFree = m; variables = v .variables; pages = v .pages; items = v .items })
-    count-free z m k = going-free counted g t e l z _ (λ pre s. counted-free pre v s (t / 8 * 8) m k)
+        → Going w counted b (p + t / 8 * 8) (record { freeBytes = v .freeBytes + t / 8 * 8; freeBlocks = v .freeBlocks + 1; largestFree = m; variables = v .variables; pages = v .pages; items = v .items })
+    count-free z m k = going-free counted g t e l z _ (λ pre s. counted-free (g .width) pre v s (t / 8 * 8) m k)
 
     pub count-variable : t % 8 ≡ 2
-        → Going counted b (p + t / 8 * 8) (record { freeBytes = v .freeBytes; freeBlocks = v .freeBlocks; largestFree = v .largestFree; variables = v .variables + 1; pages = v .pages; items = v .items })
-    count-variable z = going-variable counted g t e l z _ (λ pre s. counted-variable pre v s (t / 8 * 8))
+        → Going w counted b (p + t / 8 * 8) (record { freeBytes = v .freeBytes; freeBlocks = v .freeBlocks; largestFree = v .largestFree; variables = v .variables + 1; pages = v .pages; items = v .items })
+    count-variable z = going-variable counted g t e l z _ (λ pre s. counted-variable (g .width) pre v s (t / 8 * 8))
 
-    pub count-page : (t % 8 ≡ 0 → ⊥) → (t % 8 ≡ 2 → ⊥) → (r : Page) → ((c k : ℕ) (ss : List Slot) → PageAt b p c k ss → PageTold r c ss)
-        → Going counted b (p + t / 8 * 8) (record { freeBytes = v .freeBytes; freeBlocks = v .freeBlocks; largestFree = v .largestFree; variables = v .variables; pages = v .pages + 1; items = v .items + r .held })
-    count-page z y r d = going-page counted g t e l z y _ (λ pre c k ss a s. counted-page pre v s c k ss (r .held) (d c k ss a .held))
+    pub count-page : (t % 8 ≡ 0 → ⊥) → (t % 8 ≡ 2 → ⊥) → (r : Page) → ((c k : ℕ) (ss : List Slot) → PageAt w b p c k ss → PageTold r c ss)
+        → Going w counted b (p + t / 8 * 8) (record { freeBytes = v .freeBytes; freeBlocks = v .freeBlocks; largestFree = v .largestFree; variables = v .variables; pages = v .pages + 1; items = v .items + r .held })
+    count-page z y r d = going-page counted g t e l z y _ (λ pre c k ss a s. counted-page (g .width) pre v s c k ss (r .held) (d c k ss a .held))

@@ -4,7 +4,8 @@ use mathlib.Core.Path.{_≡_, refl, sym, ap, subst, _∙_}
 use mathlib.Core.List.{List}
 use native.Mathlib.Omega.{arith}
 use lib.ListN.{length}
-use Rattle.model.specs.Shape.{wide, offsetOf, endOf}
+use Rattle.words.specs.Width.{Width}
+use Rattle.model.specs.Shape.{shape, offsetOf, endOf, leastTaken, start}
 use Rattle.model.specs.Layout.{Layout, ends}
 use Rattle.model.specs.Sound.{Here, Sound}
 use Rattle.model.specs.Rules.{Found, block, thing, find, capacity}
@@ -16,52 +17,52 @@ use Rattle.find.specs.declared.Live.the-variants.{Nothing, Item, Variable}
 use Rattle.find.specs.Find.{Finds}
 use Rattle.reading.specs.Holding.{Holds}
 
-module _ (b : List ℕ) (a : ℕ) (k : Sound wide b) (x : Live) (f : (L : Layout) → Here wide b L → Finds L a x) where
-  found-as : (y : Live) → x ≡ y → (L : Layout) → Here wide b L → Finds L a y
-  found-as y e L h = subst (λ (z : Live). Finds L a z) e (f L h)
+module _ {w : ℕ} (wd : Width w) (b : List ℕ) (a : ℕ) (k : Sound (shape w) b) (x : Live) (f : (L : Layout) → Here (shape w) b L → Finds w L a x) where
+  found-as : (y : Live) → x ≡ y → (L : Layout) → Here (shape w) b L → Finds w L a y
+  found-as y e L h = subst (λ (z : Live). Finds w L a z) e (f L h)
 
   -- what is found ends by the end
-  ends-by : (L : Layout) → Here wide b L → (g : Found) → find wide a L ≡ g → EndsBy a (endOf (length b)) g
+  ends-by : (L : Layout) → Here (shape w) b L → (g : Found) → find (shape w) a L ≡ g → EndsBy w a (endOf (length b)) g
   ends-by L h g e =
-      let z : EndsBy a (ends wide 312 (L .blocks)) (find wide a L) = find-by a 312 (L .blocks) (h .valid .allowed) in
+      let z : EndsBy w a (ends (shape w) (start (shape w)) (L .blocks)) (find (shape w) a L) = find-by wd a (start (shape w)) (L .blocks) (h .valid .allowed) in
       rw (e, h .valid .fills) at z
 
-  pub holds-none : x ≡ Nothing → Holds b a 0
+  pub holds-none : x ≡ Nothing → Holds w b a 0
   unfolding Finds
   holds-none e =
       record {
-        answer = λ L h. ap (capacity wide) (sym (found-as Nothing e L h));
+        answer = λ L h. ap (capacity (shape w)) (sym (found-as Nothing e L h));
         none = λ _ L h. found-as Nothing e L h;
         within = λ n. absurd (n refl);
       }
 
   module _ (q : Position) (c : ℕ) (e : x ≡ Item q c) where
-    pub item-fits : (c < 32) × (a + (8 * c + 8) ≤ endOf (length b))
+    pub item-fits : (c < 4 * w) × (a + (8 * c + 8) ≤ endOf (length b))
     unfolding Finds EndsBy
-    item-fits = ends-by (k .layout) (k .here) (thing (offsetOf wide (q .0)) c) (found-as (Item q c) e (k .layout) (k .here) .1)
+    item-fits = ends-by (k .layout) (k .here) (thing (offsetOf (shape w) (q .0)) c) (found-as (Item q c) e (k .layout) (k .here) .1)
 
-    pub holds-item : Holds b a (8 * c + 8)
+    pub holds-item : Holds w b a (8 * c + 8)
     unfolding Finds
     holds-item =
         record {
-          answer = λ L h. ap (capacity wide) (sym (found-as (Item q c) e L h .1));
+          answer = λ L h. ap (capacity (shape w)) (sym (found-as (Item q c) e L h .1));
           none = λ z L h. absurd (omega arith);
           within = λ n. omega (arith, item-fits);
         }
 
   module _ (y : Block) (e : x ≡ Variable y) where
-    pub block-fits : (280 ≤ y .size) × (a + (y .size - 16) ≤ endOf (length b))
+    pub block-fits : (leastTaken (shape w) ≤ y .size) × (a + (y .size - 2 * w) ≤ endOf (length b))
     unfolding Finds EndsBy
     block-fits =
         let g = found-as (Variable y) e (k .layout) (k .here) in
         let z = ends-by (k .layout) (k .here) (block (g .0)) (g .1 .found) in
         (omega (arith, z .0, g .1 .size), omega (arith, z .1, g .1 .size))
 
-    pub holds-block : Holds b a (y .size - 16)
+    pub holds-block : Holds w b a (y .size - 2 * w)
     unfolding Finds
     holds-block =
         record {
-          answer = λ L h. let g = found-as (Variable y) e L h in ap (λ (n : ℕ). n - 16) (sym (g .1 .size)) ∙ ap (capacity wide) (sym (g .1 .found));
+          answer = λ L h. let g = found-as (Variable y) e L h in ap (λ (n : ℕ). n - 2 * w) (sym (g .1 .size)) ∙ ap (capacity (shape w)) (sym (g .1 .found));
           none = λ z L h. absurd (omega (arith, block-fits));
           within = λ n. omega (arith, block-fits);
         }

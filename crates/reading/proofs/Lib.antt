@@ -1,5 +1,5 @@
 mod ReadingLaws
 mod CountLaws
-mod TableLaws
+pub mod TableLaws
 mod SteppingLaws
 mod HoldingLaws

@@ -7,8 +7,9 @@ use native.Mathlib.Omega.{arith}
 use lib.ListN.{length, getD}
 use lib.Dec.{eqb}
 use borrow.Author.Tests.{eq-eqb, ne-eqb}
+use Rattle.words.specs.Width.{Width}
 use Rattle.words.specs.Word.{wordAt}
-use Rattle.model.specs.Shape.{wide, item, offsetOf, endOf}
+use Rattle.model.specs.Shape.{shape, item, offsetOf, endOf, start}
 use Rattle.model.specs.Picture.{Shows}
 use Rattle.model.specs.Layout.{Slot, idle, held, variable, page, Block, free, used, Layout, nextOf, useSize, sizeOf, ends, header, slotWords, useWords, own}
 use Rattle.model.specs.Sound.{Allowed, AllowedUse, AllAllowed, Here, Sound}
@@ -23,29 +24,30 @@ use Rattle.reading.specs.declared.counting.Page.{Page}
 use Rattle.reading.specs.Counting.{heldFrom, PageAt, AtPage, PageTold, Going}
 
 -- the headers tell how many items are in use
-held-read : (b l : List ℕ) (c : ℕ) → ((o : ℕ) → nextOf o l % 8 ≡ 0) → (q : ℕ) (ss : List Slot) → Shows 8 b (slotWords wide c l q ss) → heldFrom b c q (length ss) ≡ heldIn ss
+held-read : (w : ℕ) (b l : List ℕ) (c : ℕ) → (q : ℕ) (ss : List Slot) → Shows w b (slotWords (shape w) c l q ss) → heldFrom w b c q (length ss) ≡ heldIn ss
 unfolding slotWords header Shows heldFrom heldIn
-held-read b l c a q [] s = refl
-held-read b l c a q (idle ∷ ss) s = rw (ne-eqb (wordAt 8 b q) (4 * c + 3) (λ e. omega (arith, s .0, a (offsetOf wide q)))) (omega (arith, held-read b l c a (q + item wide c) ss (s .1)))
-held-read b l c a q (held ∷ ss) s = rw (eq-eqb (wordAt 8 b q) (4 * c + 3) (s .0)) (omega (arith, held-read b l c a (q + item wide c) ss (s .1)))
+held-read w b l c q [] s = refl
+held-read w b l c q (idle ∷ ss) s = rw (ne-eqb (wordAt w b q) (4 * c + 3) (λ e. omega (arith, s .0))) (omega (arith, held-read w b l c (q + item (shape w) c) ss (s .1)))
+held-read w b l c q (held ∷ ss) s = rw (eq-eqb (wordAt w b q) (4 * c + 3) (s .0)) (omega (arith, held-read w b l c (q + item (shape w) c) ss (s .1)))
 
 -- counting them, item by item
-pub record Held (b : List ℕ) (c first n size q left held : ℕ) : Type 0 where
-  pub few : c < 32
-  pub item-size : size ≡ item wide c
+pub record Held (w : ℕ) (b : List ℕ) (c first n size q left held : ℕ) : Type 0 where
+  pub width : Width w
+  pub few : c < 4 * w
+  pub item-size : size ≡ item (shape w) c
   pub small : held + left ≤ n
   pub many : n ≤ 4097
-  pub room : q + left * item wide c ≤ length b
-  pub rest : held + heldFrom b c q left ≡ heldFrom b c first n
+  pub room : q + left * item (shape w) c ≤ length b
+  pub rest : held + heldFrom w b c q left ≡ heldFrom w b c first n
 
-pub held-start : (b : List ℕ) (c first n size : ℕ) → c < 32 → n ≤ 4097 → first + n * item wide c ≤ length b → size ≡ item wide c → Held b c first n size first n 0
-held-start b c first n size l m r e = record { few = l; item-size = e; small = omega arith; many = m; room = r; rest = omega arith }
+pub held-start : {w : ℕ} → Width w → (b : List ℕ) (c first n size : ℕ) → c < 4 * w → n ≤ 4097 → first + n * item (shape w) c ≤ length b → size ≡ item (shape w) c → Held w b c first n size first n 0
+held-start wd b c first n size l m r e = record { width = wd; few = l; item-size = e; small = omega arith; many = m; room = r; rest = omega arith }
 
-held-turn : (b : List ℕ) (c q left : ℕ) → (left ≡ 0 → ⊥) → heldFrom b c q left ≡ cond (eqb (wordAt 8 b q) (4 * c + 3)) 1 0 + heldFrom b c (q + item wide c) (left - 1)
+held-turn : (w : ℕ) (b : List ℕ) (c q left : ℕ) → (left ≡ 0 → ⊥) → heldFrom w b c q left ≡ cond (eqb (wordAt w b q) (4 * c + 3)) 1 0 + heldFrom w b c (q + item (shape w) c) (left - 1)
 unfolding heldFrom
-held-turn b c q left l = go (left - 1) (omega arith) refl
+held-turn w b c q left l = go (left - 1) (omega arith) refl
   where
-    go : (k : ℕ) → left ≡ suc k → left - 1 ≡ k → heldFrom b c q left ≡ cond (eqb (wordAt 8 b q) (4 * c + 3)) 1 0 + heldFrom b c (q + item wide c) (left - 1)
+    go : (k : ℕ) → left ≡ suc k → left - 1 ≡ k → heldFrom w b c q left ≡ cond (eqb (wordAt w b q) (4 * c + 3)) 1 0 + heldFrom w b c (q + item (shape w) c) (left - 1)
     go k e f = rw (f, e)
 
 one-less : (left s : ℕ) → (left ≡ 0 → ⊥) → s + (left - 1) * s ≡ left * s
@@ -58,117 +60,121 @@ cond-one : (y : Bool) → cond y 1 0 ≤ 1
 cond-one true = omega arith
 cond-one false = omega arith
 
-module _ {b : List ℕ} {c first n size q left held : ℕ} (i : Held b c first n size q left held) where
-  pub held-inside : (left ≡ 0 → ⊥) → q + 16 ≤ length b
-  held-inside l = omega (arith, i .room, one-less left (item wide c) l)
+module _ {w : ℕ} {b : List ℕ} {c first n size q left held : ℕ} (i : Held w b c first n size q left held) where
+  pub held-inside : (left ≡ 0 → ⊥) → q + w ≤ length b
+  held-inside l = omega (arith, i .room, one-less left (item (shape w) c) l)
 
   pub held-next : (left ≡ 0 → ⊥) → q + size ≤ length b
-  held-next l = omega (arith, i .room, i .item-size, one-less left (item wide c) l)
+  held-next l = omega (arith, i .room, i .item-size, one-less left (item (shape w) c) l)
 
-  pub held-again : (left ≡ 0 → ⊥) → (x y : ℕ) → x ≡ wordAt 8 b q → y ≡ cond (eqb x (4 * c + 3)) 1 0 → Held b c first n size (q + size) (left - 1) (held + y)
+  pub held-again : (left ≡ 0 → ⊥) → (x y : ℕ) → x ≡ wordAt w b q → y ≡ cond (eqb x (4 * c + 3)) 1 0 → Held w b c first n size (q + size) (left - 1) (held + y)
   held-again l x y e f =
-      let z : y ≡ cond (eqb (wordAt 8 b q) (4 * c + 3)) 1 0 = f ∙ ap (λ (w : ℕ). cond (eqb w (4 * c + 3)) 1 0) e in
+      let z : y ≡ cond (eqb (wordAt w b q) (4 * c + 3)) 1 0 = f ∙ ap (λ (m : ℕ). cond (eqb m (4 * c + 3)) 1 0) e in
       rw (i .item-size)
       record {
+        width = i .width;
         few = i .few;
         item-size = refl;
-        small = omega (arith, i .small, z, cond-one (eqb (wordAt 8 b q) (4 * c + 3)));
+        small = omega (arith, i .small, z, cond-one (eqb (wordAt w b q) (4 * c + 3)));
         many = i .many;
-        room = omega (arith, i .room, one-less left (item wide c) l);
-        rest = omega (arith, i .rest, held-turn b c q left l);
+        room = omega (arith, i .room, one-less left (item (shape w) c) l);
+        rest = omega (arith, i .rest, held-turn w b c q left l);
       }
 
-  pub held-done : left ≡ 0 → (held ≡ heldFrom b c first n) × (held ≤ n)
+  pub held-done : left ≡ 0 → (held ≡ heldFrom w b c first n) × (held ≤ n)
   unfolding heldFrom
-  held-done e = let r : held + heldFrom b c q 0 ≡ heldFrom b c first n = rw e at (i .rest) in (omega (arith, r), omega (arith, i .small))
+  held-done e = let r : held + heldFrom w b c q 0 ≡ heldFrom w b c first n = rw e at (i .rest) in (omega (arith, r), omega (arith, i .small))
 
 -- what the code reads of a page
-module _ {b : List ℕ} {p c k : ℕ} {ss : List Slot} (a : PageAt b p c k ss) where
-  pub page-class : (x : ℕ) → x ≡ wordAt 8 b (p + 8) → x % 128 / 4 ≡ c
-  page-class x e = go ss (a .count) (a .shown)
+module _ {w : ℕ} {b : List ℕ} {p c k : ℕ} {ss : List Slot} (a : PageAt w b p c k ss) where
+  pub page-class : (x d : ℕ) → x ≡ wordAt w b (p + w) → d ≡ x % (16 * w) / 4 → d ≡ c
+  page-class x d e f = f ∙ ap (λ (z : ℕ). z % (16 * w) / 4) e ∙ go ss (a .count) (a .shown)
     where
-      go : (ss : List Slot) → length ss ≡ wide .perPage c → Shows 8 b (slotWords wide c (a .list) (p + 8) ss) → x % 128 / 4 ≡ c
-      go [] n s = absurd (omega arith)
-      go (y ∷ ss) n s = ap (λ (z : ℕ). z % 128 / 4) e ∙ class-read b (a .list) c (a .few) (a .aligned) (p + 8) y ss s
+      go : (ss : List Slot) → length ss ≡ shape w .perPage c → Shows w b (slotWords (shape w) c (a .list) (p + w) ss) → wordAt w b (p + w) % (16 * w) / 4 ≡ c
+      go [] n s = absurd (omega (arith, per-page-bound (a .width) c))
+      go (y ∷ ss) n s = class-read (a .width) b (a .list) c (a .few) (a .aligned) (p + w) y ss s
 
-  pub page-room : p + 16 + wide .perPage c * item wide c ≤ endOf (length b)
+  pub page-room : p + 2 * w + shape w .perPage c * item (shape w) c ≤ endOf (length b)
   unfolding useSize
-  page-room = let i : p + (16 + wide .perPage c * item wide c + k) ≤ endOf (length b) = rw (a .count) at (a .inside) in omega (arith, i)
+  page-room = let i : p + (2 * w + shape w .perPage c * item (shape w) c + k) ≤ endOf (length b) = rw (a .count) at (a .inside) in omega (arith, i)
 
-  pub page-numbers : (x n : ℕ) → x ≡ wordAt 8 b (p + 8) → n ≡ wide .perPage (x % 128 / 4) → (x % 128 / 4 < 32) × (n ≤ 4097) × (p + 8 + n * item wide (x % 128 / 4) ≤ length b)
-  page-numbers x n e f = rw (f, page-class x e) (a .few, per-page-bound c, omega (arith, page-room))
+  -- x is the first header, d the class that it says and n the items' number, as code works them out
+  module _ (x d n : ℕ) (e : x ≡ wordAt w b (p + w)) (ed : d ≡ x % (16 * w) / 4) (en : n ≡ shape w .perPage d) where
+    pub page-numbers : (d < 4 * w) × (n ≤ 4097) × (p + w + n * item (shape w) d ≤ length b)
+    page-numbers = rw (en, page-class x d e ed) (a .few, per-page-bound (a .width) c .1, omega (arith, page-room))
 
-  pub page-told : (x n m : ℕ) → x ≡ wordAt 8 b (p + 8) → n ≡ wide .perPage (x % 128 / 4) → m ≡ heldFrom b (x % 128 / 4) (p + 8) n → PageTold (record { class = x % 128 / 4; held = m; idle = n - m }) c ss
-  page-told x n m e f g =
-      let z = page-class x e in
-      let n-is : n ≡ length ss = f ∙ ap (λ (y : ℕ). wide .perPage y) z ∙ sym (a .count) in
-      let m-is : m ≡ heldIn ss = g ∙ ap₂ (λ (y i : ℕ). heldFrom b y (p + 8) i) z n-is ∙ held-read b (a .list) c (a .aligned) (p + 8) ss (a .shown) in
-      record { class = z; held = m-is; idle = ap₂ (λ (i j : ℕ). i - j) n-is m-is }
+    pub page-told : (m : ℕ) → m ≡ heldFrom w b d (p + w) n → PageTold (record { class = d; held = m; idle = n - m }) c ss
+    page-told m g =
+        let z = page-class x d e ed in
+        let n-is : n ≡ length ss = en ∙ ap (λ (y : ℕ). shape w .perPage y) z ∙ sym (a .count) in
+        let m-is : m ≡ heldIn ss = g ∙ ap₂ (λ (y i : ℕ). heldFrom w b y (p + w) i) z n-is ∙ held-read w b (a .list) c (p + w) ss (a .shown) in
+        record { class = z; held = m-is; idle = ap₂ (λ (i j : ℕ). i - j) n-is m-is }
 
 -- a walk that counts, at its start, at each kind of block, and at its end
-module _ {A : Type 0} (f : List Block → A) where
-  pub going-start : (b : List ℕ) → Sound wide b → (v : A) → v ≡ f [] → Going f b 312 v
-  going-start b s v e = record { sound = s; gone = λ L h. gone-start f L v e }
+module _ {A : Type 0} {w : ℕ} (f : List Block → A) where
+  pub going-start : Width w → (b : List ℕ) (p : ℕ) → p ≡ start (shape w) → Sound (shape w) b → (v : A) → v ≡ f [] → Going w f b p v
+  going-start wd b p ep s v e = record { width = wd; sound = s; gone = λ L h. rw ep (gone-start f L v e) }
 
-  module _ {b : List ℕ} {p : ℕ} {v : A} (g : Going f b p v) where
+  module _ {b : List ℕ} {p : ℕ} {v : A} (g : Going w f b p v) where
     -- some blocks are passed
     pub record Some : Type 0 where
       pub pre : List Block
-      pub allowed : AllAllowed wide pre
-      pub begins : ends wide 312 pre ≡ p
+      pub allowed : AllAllowed (shape w) pre
+      pub begins : ends (shape w) (start (shape w)) pre ≡ p
       pub so-far : v ≡ f pre
 
     pub going-some : Some
     going-some =
         let k = g .gone (g .sound .layout) (g .sound .here) in
-        record { pre = k .pre; allowed = passed-allowed (k .passed) (g .sound .here); begins = k .passed .begins; so-far = k .so-far }
+        record { pre = k .pre; allowed = passed-allowed (k .passed) (g .width) (g .sound .here); begins = k .passed .begins; so-far = k .so-far }
 
-    pub going-done : endOf (length b) ≤ p → (L : Layout) → Here wide b L → v ≡ f (L .blocks)
-    going-done l L h = gone-done f h (g .gone L h) l
+    pub going-done : endOf (length b) ≤ p → (L : Layout) → Here (shape w) b L → v ≡ f (L .blocks)
+    going-done l L h = gone-done f (g .width) h (g .gone L h) l
 
-    module _ (t : ℕ) (e : t ≡ wordAt 8 b p) (l : p < endOf (length b)) where
-      pub going-inside : (32 ≤ t / 8 * 8) × (p + t / 8 * 8 ≤ endOf (length b))
+    module _ (t : ℕ) (e : t ≡ wordAt w b p) (l : p < endOf (length b)) where
+      pub going-inside : (4 * w ≤ t / 8 * 8) × (p + t / 8 * 8 ≤ endOf (length b))
       going-inside =
           let k = g .gone (g .sound .layout) (g .sound .here) in
-          let z = sized (g .sound .here) (stands (k .passed)) t e l in
+          let z = sized (g .width) (g .sound .here) (stands (k .passed)) t e l in
           (z .least, z .inside)
 
-      pub going-free : t % 8 ≡ 0 → (u : A) → ((pre : List Block) → v ≡ f pre → u ≡ f (pre ++ (free (t / 8 * 8) ∷ []))) → Going f b (p + t / 8 * 8) u
+      pub going-free : t % 8 ≡ 0 → (u : A) → ((pre : List Block) → v ≡ f pre → u ≡ f (pre ++ (free (t / 8 * 8) ∷ []))) → Going w f b (p + t / 8 * 8) u
       unfolding sizeOf
-      going-free z u more = record { sound = g .sound; gone = on }
+      going-free z u more = record { width = g .width; sound = g .sound; gone = on }
         where
-          on : (L : Layout) → Here wide b L → Gone f L (p + t / 8 * 8) u
+          on : (L : Layout) → Here (shape w) b L → Gone w f L (p + t / 8 * 8) u
           on L h =
               let k = g .gone L h in
-              let r = is-free h (stands (k .passed)) t e l z in
-              gone-on f h k (free (t / 8 * 8)) (r .0) (r .1) (t / 8 * 8) refl u (more (k .pre) (k .so-far))
+              let r = is-free (g .width) h (stands (k .passed)) t e l z in
+              gone-on f (g .width) h k (free (t / 8 * 8)) (r .0) (r .1) (t / 8 * 8) refl u (more (k .pre) (k .so-far))
 
-      pub going-variable : t % 8 ≡ 2 → (u : A) → ((pre : List Block) → v ≡ f pre → u ≡ f (pre ++ (used (variable (t / 8 * 8)) ∷ []))) → Going f b (p + t / 8 * 8) u
+      pub going-variable : t % 8 ≡ 2 → (u : A) → ((pre : List Block) → v ≡ f pre → u ≡ f (pre ++ (used (variable (t / 8 * 8)) ∷ []))) → Going w f b (p + t / 8 * 8) u
       unfolding sizeOf useSize
-      going-variable z u more = record { sound = g .sound; gone = on }
+      going-variable z u more = record { width = g .width; sound = g .sound; gone = on }
         where
-          on : (L : Layout) → Here wide b L → Gone f L (p + t / 8 * 8) u
+          on : (L : Layout) → Here (shape w) b L → Gone w f L (p + t / 8 * 8) u
           on L h =
               let k = g .gone L h in
-              let r = is-variable h (stands (k .passed)) t e l z in
-              gone-on f h k (used (variable (t / 8 * 8))) (r .0) (r .1) (t / 8 * 8) refl u (more (k .pre) (k .so-far))
+              let r = is-variable (g .width) h (stands (k .passed)) t e l z in
+              gone-on f (g .width) h k (used (variable (t / 8 * 8))) (r .0) (r .1) (t / 8 * 8) refl u (more (k .pre) (k .so-far))
 
       module _ (z : t % 8 ≡ 0 → ⊥) (y : t % 8 ≡ 2 → ⊥) where
-        pub page-there : (L : Layout) (h : Here wide b L) → PageThere h (stands (g .gone L h .passed)) t e l
-        page-there L h = is-page h (stands (g .gone L h .passed)) t e l z y
+        pub page-there : (L : Layout) (h : Here (shape w) b L) → PageThere (g .width) h (stands (g .gone L h .passed)) t e l
+        page-there L h = is-page (g .width) h (stands (g .gone L h .passed)) t e l z y
 
-        pub there-at : (L : Layout) (h : Here wide b L) → PageAt b p (page-there L h .class) (page-there L h .spare) (page-there L h .slots)
+        pub there-at : (L : Layout) (h : Here (shape w) b L) → PageAt w b p (page-there L h .class) (page-there L h .spare) (page-there L h .slots)
         unfolding own useWords Shows Allowed AllowedUse sizeOf
         there-at L h =
             let q = page-there L h in
             record {
+              width = g .width;
               few = q .met .allowed .0;
               count = q .met .allowed .1;
               inside = q .met .inside;
               list = getD (L .lists) (q .class) [];
-              aligned = λ o. next-aligned (endOf (length b)) L (h .valid) (q .class) o (q .met .allowed .0);
-              shown = shows-left 8 b (slotWords wide (q .class) (getD (L .lists) (q .class) []) (p + 8) (q .slots))
-                  (record { at = p + useSize wide (page (q .class) (q .spare) (q .slots)) - 8; is = useSize wide (page (q .class) (q .spare) (q .slots)) + 3 } ∷ [])
+              aligned = λ o. next-aligned (g .width) (endOf (length b)) L (h .valid) (q .class) o (q .met .allowed .0);
+              shown = shows-left w b (slotWords (shape w) (q .class) (getD (L .lists) (q .class) []) (p + w) (q .slots))
+                  (record { at = p + useSize (shape w) (page (q .class) (q .spare) (q .slots)) - w; is = useSize (shape w) (page (q .class) (q .spare) (q .slots)) + 3 } ∷ [])
                   (q .met .shown .1);
             }
 
@@ -177,25 +183,25 @@ module _ {A : Type 0} (f : List Block → A) where
         unfolding tagOf sizeOf
         page-flag = let q = page-there (g .sound .layout) (g .sound .here) in omega (arith, q .met .tag, q .met .eight)
 
-        pub going-at-page : AtPage b p
+        pub going-at-page : AtPage w b p
         going-at-page =
             let L = g .sound .layout in
             let h = g .sound .here in
             record { class = page-there L h .class; spare = page-there L h .spare; slots = page-there L h .slots; at = there-at L h }
 
-        pub going-page : (u : A) → ((pre : List Block) (c k : ℕ) (ss : List Slot) → PageAt b p c k ss → v ≡ f pre → u ≡ f (pre ++ (used (page c k ss) ∷ []))) → Going f b (p + t / 8 * 8) u
+        pub going-page : (u : A) → ((pre : List Block) (c k : ℕ) (ss : List Slot) → PageAt w b p c k ss → v ≡ f pre → u ≡ f (pre ++ (used (page c k ss) ∷ []))) → Going w f b (p + t / 8 * 8) u
         unfolding sizeOf
-        going-page u more = record { sound = g .sound; gone = on }
+        going-page u more = record { width = g .width; sound = g .sound; gone = on }
           where
-            on : (L : Layout) → Here wide b L → Gone f L (p + t / 8 * 8) u
+            on : (L : Layout) → Here (shape w) b L → Gone w f L (p + t / 8 * 8) u
             on L h =
                 let k = g .gone L h in
                 let q = page-there L h in
-                gone-on f h k (used (page (q .class) (q .spare) (q .slots))) (q .after) (q .rest) (t / 8 * 8) (q .size) u
+                gone-on f (g .width) h k (used (page (q .class) (q .spare) (q .slots))) (q .after) (q .rest) (t / 8 * 8) (q .size) u
                 (more (k .pre) (q .class) (q .spare) (q .slots) (there-at L h) (k .so-far))
 
 -- what is told of a page is small
-pub page-small : {b : List ℕ} {p : ℕ} (a : AtPage b p) (r : Page) → ((c k : ℕ) (ss : List Slot) → PageAt b p c k ss → PageTold r c ss) → (r .class < 32) × (r .held ≤ 4097) × (r .idle ≤ 4097)
+pub page-small : {w : ℕ} {b : List ℕ} {p : ℕ} (a : AtPage w b p) (r : Page) → ((c k : ℕ) (ss : List Slot) → PageAt w b p c k ss → PageTold r c ss) → (r .class < 4 * w) × (r .held ≤ 4097) × (r .idle ≤ 4097)
 page-small a r t =
     let q = t (a .class) (a .spare) (a .slots) (a .at) in
-    (omega (arith, q .class, a .at .few), omega (arith, q .held, held-few (a .slots), a .at .count, per-page-bound (a .class)), omega (arith, q .idle, a .at .count, per-page-bound (a .class)))
+    (omega (arith, q .class, a .at .few), omega (arith, q .held, held-few (a .slots), a .at .count, per-page-bound (a .at .width) (a .class)), omega (arith, q .idle, a .at .count, per-page-bound (a .at .width) (a .class)))

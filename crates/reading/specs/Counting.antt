@@ -5,8 +5,9 @@ use mathlib.Core.Bool.{cond}
 use mathlib.Core.List.{List, [], _∷_}
 use lib.ListN.{length, getD}
 use lib.Dec.{eqb}
+use Rattle.words.specs.Width.{Width}
 use Rattle.words.specs.Word.{wordAt}
-use Rattle.model.specs.Shape.{wide, item, endOf}
+use Rattle.model.specs.Shape.{shape, item, endOf}
 use Rattle.model.specs.Picture.{Shows}
 use Rattle.model.specs.Layout.{Slot, page, Block, Layout, nextOf, useSize, slotWords}
 use Rattle.model.specs.Sound.{Here, Sound}
@@ -17,24 +18,25 @@ use Rattle.reading.specs.declared.counting.Page.{Page}
 use Rattle.reading.specs.declared.counting.Statistics.{Statistics}
 
 -- how many of n items of class c, with their headers from q on, say that they are in use
-unfoldable pub heldFrom : List ℕ → ℕ → ℕ → ℕ → ℕ
-heldFrom b c q zero = 0
-heldFrom b c q (suc n) = cond (eqb (wordAt 8 b q) (4 * c + 3)) 1 0 + heldFrom b c (q + item wide c) n
+unfoldable pub heldFrom : ℕ → List ℕ → ℕ → ℕ → ℕ → ℕ
+heldFrom w b c q zero = 0
+heldFrom w b c q (suc n) = cond (eqb (wordAt w b q) (4 * c + 3)) 1 0 + heldFrom w b c (q + item (shape w) c) n
 
 -- a page of class c with the items ss stands at p; its free items are listed in l
-pub record PageAt (b : List ℕ) (p c k : ℕ) (ss : List Slot) : Type 0 where
-  pub few : c < 32
-  pub count : length ss ≡ wide .perPage c
-  pub inside : p + useSize wide (page c k ss) ≤ endOf (length b)
+pub record PageAt (w : ℕ) (b : List ℕ) (p c k : ℕ) (ss : List Slot) : Type 0 where
+  pub width : Width w
+  pub few : c < 4 * w
+  pub count : length ss ≡ shape w .perPage c
+  pub inside : p + useSize (shape w) (page c k ss) ≤ endOf (length b)
   pub list : List ℕ
-  pub aligned : (o : ℕ) → nextOf o list % 8 ≡ 0
-  pub shown : Shows 8 b (slotWords wide c list (p + 8) ss)
+  pub aligned : (o : ℕ) → nextOf o list % w ≡ 0
+  pub shown : Shows w b (slotWords (shape w) c list (p + w) ss)
 
-pub record AtPage (b : List ℕ) (p : ℕ) : Type 0 where
+pub record AtPage (w : ℕ) (b : List ℕ) (p : ℕ) : Type 0 where
   pub class : ℕ
   pub spare : ℕ
   pub slots : List Slot
-  pub at : PageAt b p class spare slots
+  pub at : PageAt w b p class spare slots
 
 -- what is told of a page
 pub record PageTold (r : Page) (c : ℕ) (ss : List Slot) : Type 0 where
@@ -50,9 +52,10 @@ abbrev pub RowRoom : List ℕ → ℕ → ℕ → Type 0
 RowRoom row held idle = (getD row 0 0 + 1 < 2 ^ 64) × (getD row 1 0 + held < 2 ^ 64) × (getD row 2 0 + idle < 2 ^ 64)
 
 -- a walk that stands at p: v has come of the blocks before p, as f says, whatever layout the heap has
-pub record Going {A : Type 0} (f : List Block → A) (b : List ℕ) (p : ℕ) (v : A) : Type 0 where
-  pub sound : Sound wide b
-  pub gone : (L : Layout) → Here wide b L → Gone f L p v
+pub record Going {A : Type 0} (w : ℕ) (f : List Block → A) (b : List ℕ) (p : ℕ) (v : A) : Type 0 where
+  pub width : Width w
+  pub sound : Sound (shape w) b
+  pub gone : (L : Layout) → Here (shape w) b L → Gone w f L p v
 
 -- the statistics that a value stands for
 abbrev pub told : Statistics → reading.Statistics

@@ -4,7 +4,8 @@ use mathlib.Core.Path.{_≡_}
 use mathlib.Core.Bool.{Bool, true, false}
 use mathlib.Core.List.{List}
 use lib.ListN.{length}
-use Rattle.model.specs.Shape.{wide, endOf}
+use Rattle.words.specs.Width.{Width}
+use Rattle.model.specs.Shape.{shape, endOf, start}
 use Rattle.model.specs.Layout.{Layout}
 use Rattle.model.specs.Layout as layout
 use Rattle.model.specs.Sound.{Here, Sound}
@@ -16,7 +17,7 @@ use Rattle.reading.specs.declared.stepping.Kind.{Kind}
 use Rattle.reading.specs.declared.stepping.Kind.the-variants.{Free, Variable, Page, End}
 use Rattle.reading.specs.declared.stepping.Block.{Block}
 
--- the kind that a value stands for, and the answer: the walk that stood at w then stands behind the block
+-- the kind that a value stands for, and the answer: the walk that stood at at then stands behind the block
 abbrev pub toldKind : Kind → reading.Kind
 toldKind (Free next previous) = aFree (next .0) (previous .0)
 toldKind Variable = aVariable
@@ -24,25 +25,26 @@ toldKind (Page c) = aPage c
 toldKind End = theEnd
 
 abbrev pub toldBlock : ℕ → Block → Step
-toldBlock w r = record { position = r .position .0; size = r .size; kind = toldKind (r .kind); next = w + r .size }
+toldBlock at r = record { position = r .position .0; size = r .size; kind = toldKind (r .kind); next = at + r .size }
 
--- a walk towards w stands at p, and has not met w
-pub record Toward (L : Layout) (w p : ℕ) : Type 0 where
+-- a walk towards at stands at p, and has not met at
+pub record Toward (w : ℕ) (L : Layout) (at p : ℕ) : Type 0 where
   pub pre : List layout.Block
   pub rest : List layout.Block
-  pub passed : Passed L p pre rest
-  pub same : step wide w L ≡ stepFrom wide w p (lastFree wide 312 pre 0) rest
+  pub passed : Passed w L p pre rest
+  pub same : step (shape w) at L ≡ stepFrom (shape w) at p (lastFree (shape w) (start (shape w)) pre 0) rest
 
-pub record Towards (b : List ℕ) (w p : ℕ) : Type 0 where
-  pub sound : Sound wide b
-  pub toward : (L : Layout) → Here wide b L → Toward L w p
+pub record Towards (w : ℕ) (b : List ℕ) (at p : ℕ) : Type 0 where
+  pub width : Width w
+  pub sound : Sound (shape w) b
+  pub toward : (L : Layout) → Here (shape w) b L → Toward w L at p
 
--- whether a block begins at w
-pub record StartTold (b : List ℕ) (w : ℕ) (r : Bool) : Type 0 where
-  pub met : r ≡ true → Towards b w w × (w < endOf (length b))
-  pub not-met : r ≡ false → (L : Layout) → Here wide b L → step wide w L ≡ ended wide w
+-- whether a block begins at at
+pub record StartTold (w : ℕ) (b : List ℕ) (at : ℕ) (r : Bool) : Type 0 where
+  pub met : r ≡ true → Towards w b at at × (at < endOf (length b))
+  pub not-met : r ≡ false → (L : Layout) → Here (shape w) b L → step (shape w) at L ≡ ended (shape w) at
 
--- the block at w
-pub record Meets (b : List ℕ) (w : ℕ) (r : Block) : Type 0 where
-  pub answer : (L : Layout) → Here wide b L → toldBlock w r ≡ step wide w L
-  pub fits : w + r .size < 2 ^ 64
+-- the block at at
+pub record Meets (w : ℕ) (b : List ℕ) (at : ℕ) (r : Block) : Type 0 where
+  pub answer : (L : Layout) → Here (shape w) b L → toldBlock at r ≡ step (shape w) at L
+  pub fits : at + r .size < 2 ^ 64

@@ -1,7 +1,9 @@
 // Statistics and the table of classes: each by one walk over the blocks, and over a page's items.
-use model::START;
+use model::Position;
+use model::class_in;
 use model::item_size;
 use model::items_in_page;
+use model::start;
 use words::word;
 ghost use mathlib.Core.Path.{_≡_};
 ghost use mathlib.Core.Bool.{cond};
@@ -9,11 +11,12 @@ ghost use mathlib.Core.List.{List, []};
 ghost use Prim.Native.Nat.{ℕ, _+_, _*_, _/_, _≤_, _<_, _^_, max};
 ghost use lib.Dec.{eqb};
 ghost use lib.ListN.{length};
+ghost use Rattle.words.specs.Width.{Width};
 ghost use Rattle.words.specs.Word.{wordAt};
-ghost use Rattle.model.specs.Shape.{wide, item, endOf};
+ghost use Rattle.model.specs.Shape.{shape, item, endOf};
 ghost use Rattle.model.specs.Layout.{Layout, Slot};
 ghost use Rattle.model.specs.Sound.{Here, Sound};
-ghost use Rattle.model.specs.Reading.{counted, table};
+ghost use Rattle.model.specs.Reading.{counted, rowsFrom};
 ghost use Rattle.reading.specs.Counting.{heldFrom, AtPage, PageAt, PageTold, RowRoom, rowAnd, Going, told};
 
 // What the blocks of a heap come to.
@@ -54,32 +57,32 @@ fn larger(a: u64, b: u64) -> u64
 }
 
 // How many of n items of class c, with their headers from `first` on, are in use.
-fn count_held(h: &[u8], first: usize, c: usize, n: usize) -> u64
-    requires { ⌜ (c < 32) × (n ≤ 4097) × (first + n * item wide c ≤ length (now h)) ⌝ }
-    ensures { λ r. ⌜ (r ≡ heldFrom (now (h .entry)) c first n) × (r ≤ n) ⌝ }
+fn count_held(w: usize, h: &[u8], first: Position, c: usize, n: usize) -> u64
+    requires { ⌜ Width w × (c < 4 * w) × (n ≤ 4097) × (first .0 + n * item (shape w) c ≤ length (now h)) ⌝ }
+    ensures { λ r. ⌜ (r ≡ heldFrom w (now (h .entry)) c (first .0) n) × (r ≤ n) ⌝ }
 {
-    let size = item_size(c);
+    let size = item_size(w, c);
     let mut q = first;
     let mut left = n;
     let mut held = 0;
     while left != 0 {
-        let x = word(h, q);
+        let x = word(w, h, q.0);
         held += one_if(x, 4 * c + 3);
-        q += size;
+        q = Position(q.0 + size);
         left -= 1;
     }
     held
 }
 
 // The page at p.
-fn page_at(h: &[u8], p: usize) -> Page
-    requires { ⌜ AtPage (now h) p ⌝ }
-    ensures { λ r. ⌜ ((c k : ℕ) (ss : List Slot) → PageAt (now (h .entry)) p c k ss → PageTold r c ss) ⌝ }
+fn page_at(w: usize, h: &[u8], p: Position) -> Page
+    requires { ⌜ AtPage w (now h) (p .0) ⌝ }
+    ensures { λ r. ⌜ ((c k : ℕ) (ss : List Slot) → PageAt w (now (h .entry)) (p .0) c k ss → PageTold r c ss) ⌝ }
 {
-    let first = p + 8;
-    let c = word(h, first) % 128 / 4;
-    let n = items_in_page(c);
-    let held = count_held(h, first, c, n);
+    let first = Position(p.0 + w);
+    let c = class_in(w, word(w, h, first.0));
+    let n = items_in_page(w, c);
+    let held = count_held(w, h, first, c, n);
     Page {
         class: c,
         held: held,
@@ -102,9 +105,9 @@ pub fn nothing_counted() -> Statistics
 }
 
 // What was counted, and the block with tag t at p.
-fn with_block(h: &[u8], p: usize, t: usize, s: Statistics) -> Statistics
-    requires { ⌜ Going counted (now h) p (told s) × (t ≡ wordAt 8 (now h) p) × (p < endOf (length (now h))) ⌝ }
-    ensures { λ r. ⌜ Going counted (now (h .entry)) (p + t / 8 * 8) (told r) ⌝ }
+fn with_block(w: usize, h: &[u8], p: Position, t: usize, s: Statistics) -> Statistics
+    requires { ⌜ Going w counted (now h) (p .0) (told s) × (t ≡ wordAt w (now h) (p .0)) × (p .0 < endOf (length (now h))) ⌝ }
+    ensures { λ r. ⌜ Going w counted (now (h .entry)) (p .0 + t / 8 * 8) (told r) ⌝ }
 {
     let mut r = s;
     if t % 8 == 0 {
@@ -117,24 +120,24 @@ fn with_block(h: &[u8], p: usize, t: usize, s: Statistics) -> Statistics
         r.variables += 1;
         return r;
     }
-    let page = page_at(h, p);
+    let page = page_at(w, h, p);
     r.pages += 1;
     r.items += page.held;
     r
 }
 
 // The statistics of a sound heap.
-pub fn count(h: &[u8]) -> Statistics
-    requires { ⌜ Sound wide (now h) ⌝ }
-    ensures { λ r. ⌜ ((L : Layout) → Here wide (now (h .entry)) L → told r ≡ counted (L .blocks)) ⌝ }
+pub fn count(w: usize, h: &[u8]) -> Statistics
+    requires { ⌜ Width w × Sound (shape w) (now h) ⌝ }
+    ensures { λ r. ⌜ ((L : Layout) → Here (shape w) (now (h .entry)) L → told r ≡ counted (L .blocks)) ⌝ }
 {
     let end = h.len() / 8 * 8;
     let mut s = nothing_counted();
-    let mut p = START;
-    while p < end {
-        let t = word(h, p);
-        s = with_block(h, p, t, s);
-        p += t / 8 * 8;
+    let mut p = Position(start(w));
+    while p.0 < end {
+        let t = word(w, h, p.0);
+        s = with_block(w, h, p, t, s);
+        p = Position(p.0 + t / 8 * 8);
     }
     s
 }
@@ -147,23 +150,23 @@ fn with_page(row: [u64; 3], held: u64, idle: u64) -> [u64; 3]
     [row[0] + 1, row[1] + held, row[2] + idle]
 }
 
-// The table of classes of a sound heap: for each, its pages, its items in use and its free items.
-pub fn tabulate(h: &[u8]) -> [[u64; 3]; 32]
-    requires { ⌜ Sound wide (now h) ⌝ }
-    ensures { λ r. ⌜ ((L : Layout) → Here wide (now (h .entry)) L → r ≡ table wide (L .blocks)) ⌝ }
+// The table of classes of a sound heap: for each, its pages, its items in use and its free items. It has 32 rows, and those of classes that there are not are 0.
+pub fn tabulate(w: usize, h: &[u8]) -> [[u64; 3]; 32]
+    requires { ⌜ Width w × Sound (shape w) (now h) ⌝ }
+    ensures { λ r. ⌜ ((L : Layout) → Here (shape w) (now (h .entry)) L → r ≡ rowsFrom 32 0 (L .blocks)) ⌝ }
 {
     let end = h.len() / 8 * 8;
     let mut rows = [[0u64; 3]; 32];
-    let mut p = START;
-    while p < end {
-        let t = word(h, p);
+    let mut p = Position(start(w));
+    while p.0 < end {
+        let t = word(w, h, p.0);
         if t % 8 == 3 {
-            let page = page_at(h, p);
+            let page = page_at(w, h, p);
             let c = page.class;
             rows[c] = with_page(rows[c], page.held, page.idle);
-            p += t / 8 * 8;
+            p = Position(p.0 + t / 8 * 8);
         } else {
-            p += t / 8 * 8;
+            p = Position(p.0 + t / 8 * 8);
         }
     }
     rows

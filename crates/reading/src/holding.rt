@@ -1,19 +1,21 @@
 // What a live address holds.
 use find::Live;
 use find::find;
-ghost use Rattle.model.specs.Shape.{wide};
+use model::Address;
+ghost use Rattle.words.specs.Width.{Width};
+ghost use Rattle.model.specs.Shape.{shape};
 ghost use Rattle.model.specs.Sound.{Sound};
 ghost use Rattle.reading.specs.Holding.{Holds};
 
 // How many bytes the payload at a has, or 0 where nothing is live.
-pub fn capacity(h: &[u8], a: usize) -> usize
-    requires { ⌜ Sound wide (now h) ⌝ }
-    ensures { λ r. ⌜ Holds (now (h .entry)) a r ⌝ }
+pub fn capacity(w: usize, h: &[u8], a: Address) -> usize
+    requires { ⌜ Width w × Sound (shape w) (now h) ⌝ }
+    ensures { λ r. ⌜ Holds w (now (h .entry)) (a .0) r ⌝ }
 {
-    let x = find(h, a);
+    let x = find(w, h, a);
     match x {
         Live::Nothing => 0,
         Live::Item(_, c) => 8 * c + 8,
-        Live::Variable(b) => b.size - 16,
+        Live::Variable(b) => b.size - 2 * w,
     }
 }

@@ -1,10 +1,12 @@
 // A step of a walk: what block begins at a position, known by a walk from the data area's start.
 use model::Position;
-use model::START;
+use model::class_in;
+use model::start;
 use words::word;
 ghost use mathlib.Core.Path.{_≡_};
 ghost use Prim.Native.Nat.{ℕ};
-ghost use Rattle.model.specs.Shape.{wide};
+ghost use Rattle.words.specs.Width.{Width};
+ghost use Rattle.model.specs.Shape.{shape};
 ghost use Rattle.model.specs.Sound.{Sound};
 ghost use Rattle.reading.specs.Stepping.{StartTold, Meets, toldBlock};
 ghost use Rattle.model.specs.Reading.{ended};
@@ -24,25 +26,25 @@ pub struct Block {
     pub kind: Kind,
 }
 
-// Whether a block begins at w.
-fn starts(h: &[u8], w: usize) -> bool
-    requires { ⌜ Sound wide (now h) ⌝ }
-    ensures { λ r. ⌜ StartTold (now (h .entry)) w r ⌝ }
+// Whether a block begins at `at`.
+fn starts(w: usize, h: &[u8], at: Position) -> bool
+    requires { ⌜ Width w × Sound (shape w) (now h) ⌝ }
+    ensures { λ r. ⌜ StartTold w (now (h .entry)) (at .0) r ⌝ }
 {
-    if h.len() / 8 * 8 <= w {
+    if h.len() / 8 * 8 <= at.0 {
         return false;
     }
-    let mut p = START;
-    while p < w {
-        let t = word(h, p);
-        p += t / 8 * 8;
+    let mut p = Position(start(w));
+    while p.0 < at.0 {
+        let t = word(w, h, p.0);
+        p = Position(p.0 + t / 8 * 8);
     }
-    p == w
+    p.0 == at.0
 }
 
 // No block: position and size are 0.
 pub fn no_block() -> Block
-    ensures { λ r. ⌜ (r .size ≡ 0) × ((w : ℕ) → toldBlock w r ≡ ended wide w) ⌝ }
+    ensures { λ r. ⌜ (r .size ≡ 0) × ((w at : ℕ) → toldBlock at r ≡ ended (shape w) at) ⌝ }
 {
     Block {
         position: Position(0),
@@ -51,21 +53,21 @@ pub fn no_block() -> Block
     }
 }
 
-// The block that begins at w, or none.
-pub fn meet(h: &[u8], w: usize) -> Block
-    requires { ⌜ Sound wide (now h) ⌝ }
-    ensures { λ r. ⌜ Meets (now (h .entry)) w r ⌝ }
+// The block that begins at `at`, or none.
+pub fn meet(w: usize, h: &[u8], at: Position) -> Block
+    requires { ⌜ Width w × Sound (shape w) (now h) ⌝ }
+    ensures { λ r. ⌜ Meets w (now (h .entry)) (at .0) r ⌝ }
 {
-    if !starts(h, w) {
+    if !starts(w, h, at) {
         return no_block();
     }
-    let t = word(h, w);
+    let t = word(w, h, at.0);
     let size = t / 8 * 8;
     if t % 8 == 0 {
-        let next = word(h, w + 8);
-        let previous = word(h, w + size - 16);
+        let next = word(w, h, at.0 + w);
+        let previous = word(w, h, at.0 + size - 2 * w);
         return Block {
-            position: Position(w),
+            position: at,
             size: size,
             kind: Kind::Free {
                 next: Position(next),
@@ -75,17 +77,15 @@ pub fn meet(h: &[u8], w: usize) -> Block
     }
     if t % 8 == 2 {
         return Block {
-            position: Position(w),
+            position: at,
             size: size,
             kind: Kind::Variable,
         };
     }
-    let first = word(h, w + 8);
+    let class = class_in(w, word(w, h, at.0 + w));
     Block {
-        position: Position(w),
+        position: at,
         size: size,
-        kind: Kind::Page {
-            class: first % 128 / 4,
-        },
+        kind: Kind::Page { class: class },
     }
 }

@@ -1,12 +1,12 @@
 -- A variable block moves: it is found again after the allocation, and given back.
-use Prim.Native.Nat.{ℕ, _-_}
+use Prim.Native.Nat.{ℕ, _-_, _*_}
 use mathlib.Core.Path.{_≡_, sym, ap, _∙_}
 use mathlib.Core.List.{List}
 use native.Mathlib.Omega.{arith}
 use lib.ListN.{length}
 use Rattle.words.specs.Word.{wordAt}
 use Rattle.model.specs.declared.Address.{Address}
-use Rattle.model.specs.Shape.{wide, endOf}
+use Rattle.model.specs.Shape.{shape, endOf, start}
 use Rattle.model.specs.Layout.{Layout}
 use Rattle.model.specs.Sound.{Here}
 use Rattle.model.specs.Rules.{Spot, Found, freed}
@@ -26,40 +26,40 @@ use Rattle.resizing.specs.Mend.{Mendable, Mended}
 use Rattle.resizing.proofs.ResizeLaws.{chosen, carried-in, moved-to, block-holds}
 use Rattle.resizing.proofs.MendLaws.{found-stands, stands-found, read-before}
 
-module _ {b : List ℕ} {a n : ℕ} {x : Block} (i : BlockAt b a x) {t : Taken} {c : List ℕ} (g : Carried b a (x .size - 16) n t c) (s : Asked n) (new : Address) (e : t ≡ At new) (r before : ℕ) (er : r ≡ backOf wide b (x .prev .0)) (eb : before ≡ wordAt 8 b r) where
-  after : (L : Layout) → Here wide b L → Layout
+module _ {w : ℕ} {b : List ℕ} {a n : ℕ} {x : Block} (i : BlockAt w b a x) {t : Taken} {c : List ℕ} (g : Carried w b a (x .size - 2 * w) n t c) (s : Asked w n) (new : Address) (e : t ≡ At new) (r before : ℕ) (er : r ≡ backOf (shape w) b (x .prev .0)) (eb : before ≡ wordAt w b r) where
+  after : (L : Layout) → Here (shape w) b L → Layout
   after L h = chosen g (block-holds i) s new e L h .0 .layout
 
-  here-after : (L : Layout) (h : Here wide b L) → Here wide c (after L h)
+  here-after : (L : Layout) (h : Here (shape w) b L) → Here (shape w) c (after L h)
   unfolding after
   here-after L h = carried-in g (block-holds i) s new e L h
 
-  mends : (L : Layout) (h : Here wide b L) → Mend wide (after L h) (x .at .0) (x .size) (x .prev .0) (x .left) before
+  mends : (L : Layout) (h : Here (shape w) b L) → Mend (shape w) (after L h) (x .at .0) (x .size) (x .prev .0) (x .left) before
   unfolding after
   mends L h =
       let m = chosen g (block-holds i) s new e L h in
-      allocate-mends wide (omega arith) (endOf (length b)) n L (h .valid) (x .at .0) (x .size) (x .prev .0) (x .left) before (found-stands b L a (i .is L h .0) x h (i .is L h .1)) (read-before i r before er eb L h) (m .0) (m .1)
+      allocate-mends (shape w) (omega arith) (endOf (length b)) n L (h .valid) (x .at .0) (x .size) (x .prev .0) (x .left) before (found-stands (i .ready .width) b L a (i .is L h .0) x h (i .is L h .1)) (read-before i r before er eb L h) (m .0) (m .1)
 
-  pub mendable : Mendable c x before
-  mendable = let L = i .ready .sound .layout in let h = i .ready .sound .here in record { layout = after L h; here = here-after L h; mend = mends L h }
+  pub mendable : Mendable w c x before
+  mendable = let L = i .ready .sound .layout in let h = i .ready .sound .here in record { width = i .ready .width; layout = after L h; here = here-after L h; mend = mends L h }
 
-  module _ {y : Block} (w : Mended c x before y) where
-    again : (L : Layout) (h : Here wide b L) → (t : Spot) × BlockFound (after L h) a t y
+  module _ {y : Block} (y′ : Mended w c x before y) where
+    again : (L : Layout) (h : Here (shape w) b L) → (t : Spot) × BlockFound w (after L h) a t y
     again L h =
         let f = i .is L h in
-        let k = block-found wide (omega arith) a 312 (L .blocks) (f .0) (f .1 .found) in
-        let st : Stands wide (after L h) (x .at .0) (x .size) (y .prev .0) (y .left) = w .stands (after L h) (here-after L h) (mends L h) in
-        stands-found c (after L h) a y (here-after L h) (omega (arith, k .at, f .1 .at, w .at)) (rw (w .at, w .size) st)
+        let k = block-found (shape w) (omega arith) a (start (shape w)) (L .blocks) (f .0) (f .1 .found) in
+        let st : Stands (shape w) (after L h) (x .at .0) (x .size) (y .prev .0) (y .left) = y′ .stands (after L h) (here-after L h) (mends L h) in
+        stands-found (i .ready .width) c (after L h) a y (here-after L h) (omega (arith, k .at, f .1 .at, y′ .at)) (rw (y′ .at, y′ .size) st)
 
-    pub found-again : length c ≡ length b → BlockLive c y
+    pub found-again : length c ≡ length b → BlockLive w c y
     found-again l =
         let L = i .ready .sound .layout in
         let h = i .ready .sound .here in
-        record { layout = after L h; here = here-after L h; short = omega (arith, i .ready .short); address = a; spot = again L h .0; found = again L h .1 }
+        record { width = i .ready .width; layout = after L h; here = here-after L h; short = rw l (i .ready .short); address = a; spot = again L h .0; found = again L h .1 }
 
-    pub given-back : (d : List ℕ) → Released c y d → Moves b a n (to.To new) d
+    pub given-back : (d : List ℕ) → Released w c y d → Moves w b a n (to.To new) d
     unfolding after
     given-back d z =
         moved-to g (block-holds i) s new e d (λ L h.
         z .draws (after L h) a (again L h .0) (here-after L h) (again L h .1)
-        ∙ ap (λ (f : Found). drawn wide (freed wide f (after L h)) c) (sym (again L h .1 .found)))
+        ∙ ap (λ (f : Found). drawn (shape w) (freed (shape w) f (after L h)) c) (sym (again L h .1 .found)))

@@ -8,14 +8,14 @@ use native.Mathlib.Omega.{arith}
 use lib.ListN.{length}
 use Rattle.words.specs.Copy.{copied, Room}
 use Rattle.model.specs.declared.Address.{Address}
-use Rattle.model.specs.Shape.{wide, endOf}
+use Rattle.model.specs.Shape.{shape, endOf, start}
 use Rattle.model.specs.Layout.{Layout}
 use Rattle.model.specs.Sound.{Here}
 use Rattle.model.specs.Rules.{Made, find, allocate, capacity}
 use Rattle.model.specs.Calls.{drawn}
 use Rattle.model.specs.Live.{_∈_, live}
 use Rattle.model.proofs.Payloads.{in-area}
-use Rattle.model.proofs.Allocation.{Granted, even-wide, allocate-grants}
+use Rattle.model.proofs.Allocation.{Granted, even, allocate-grants}
 use Rattle.model.proofs.Moving.{payloadOf, found-live, live-apart, copied-here}
 use Rattle.find.specs.declared.Block as seen
 use Rattle.engine.specs.declared.allocate.Taken.{Taken}
@@ -41,47 +41,47 @@ taken-some (some m) x e = (m, refl, ap address e)
     address NoRoom = 0
 
 -- the old place and the new, in a layout of the bytes
-module _ (b : List ℕ) (a k n : ℕ) (q : Holding b a k) (s : Asked n) (L : Layout) (h : Here wide b L) (m : Made) (e : allocate wide n L ≡ some m) where
-  grants : Granted wide (endOf (length b)) n L m
-  grants = allocate-grants wide (endOf (length b)) n even-wide L m (h .valid) (s .some-byte) e
+module _ {w : ℕ} (b : List ℕ) (a k n : ℕ) (q : Holding w b a k) (s : Asked w n) (L : Layout) (h : Here (shape w) b L) (m : Made) (e : allocate (shape w) n L ≡ some m) where
+  grants : Granted (shape w) (endOf (length b)) n L m
+  grants = allocate-grants (shape w) (endOf (length b)) n (even (q .ready .width)) L m (h .valid) (s .some-byte) e
 
-  pub old-live : payloadOf wide a (find wide a L) ∈ live wide (m .layout)
-  old-live = grants .adds .kept (payloadOf wide a (find wide a L)) (found-live wide a 312 (L .blocks) (q .live L h))
+  pub old-live : payloadOf (shape w) a (find (shape w) a L) ∈ live (shape w) (m .layout)
+  old-live = grants .adds .kept (payloadOf (shape w) a (find (shape w) a L)) (found-live (shape w) a (start (shape w)) (L .blocks) (q .live L h))
 
   pub copy-room : (bytes to j : ℕ) → bytes ≡ length b → to ≡ m .at → j ≡ min k n → Room bytes a to j
   copy-room bytes to j eb et ej =
-      let x = in-area wide (endOf (length b)) (m .layout) (grants .valid) (payloadOf wide a (find wide a L)) old-live in
-      let y = in-area wide (endOf (length b)) (m .layout) (grants .valid) (grants .payload) (grants .adds .there) in
-      let size : k ≡ capacity wide (find wide a L) = q .large L h in
+      let x = in-area (shape w) (endOf (length b)) (m .layout) (grants .valid) (payloadOf (shape w) a (find (shape w) a L)) old-live in
+      let y = in-area (shape w) (endOf (length b)) (m .layout) (grants .valid) (grants .payload) (grants .adds .there) in
+      let size : k ≡ capacity (shape w) (find (shape w) a L) = q .large L h in
       record {
         source = omega (arith, x .1);
         target = omega (arith, y .1, grants .at, grants .large);
         apart = ⊎-elim (λ z. inl (omega (arith, z, grants .at, grants .large))) (λ z. inr (omega (arith, z, grants .at, grants .large)))
-            (live-apart wide (endOf (length b)) (m .layout) (grants .valid) (payloadOf wide a (find wide a L)) (grants .payload) old-live (grants .adds .there)
-            (grants .adds .new (payloadOf wide a (find wide a L)) (found-live wide a 312 (L .blocks) (q .live L h))));
+            (live-apart (shape w) (endOf (length b)) (m .layout) (grants .valid) (payloadOf (shape w) a (find (shape w) a L)) (grants .payload) old-live (grants .adds .there)
+            (grants .adds .new (payloadOf (shape w) a (find (shape w) a L)) (found-live (shape w) a (start (shape w)) (L .blocks) (q .live L h))));
       }
 
-  pub carried-here : (c : List ℕ) → length c ≡ length b → Here wide c (m .layout) → (to j : ℕ) → to ≡ m .at → j ≡ min k n → Here wide (copied a to j c) (m .layout)
+  pub carried-here : (c : List ℕ) → length c ≡ length b → Here (shape w) c (m .layout) → (to j : ℕ) → to ≡ m .at → j ≡ min k n → Here (shape w) (copied a to j c) (m .layout)
   carried-here c ec hc to j et ej =
       let r = copy-room (length c) to j ec et ej in
       let p : grants .payload .address ≡ to = grants .at ∙ sym et in
-      subst (λ (y : ℕ). Here wide (copied a y j c) (m .layout)) p
-      (copied-here wide c (m .layout) hc (grants .payload) (grants .adds .there) a j (omega (arith, grants .large)) (r .source))
+      subst (λ (y : ℕ). Here (shape w) (copied a y j c) (m .layout)) p
+      (copied-here (shape w) c (m .layout) hc (grants .payload) (grants .adds .there) a j (omega (arith, grants .large)) (r .source))
 
 -- each way through carry
-module _ {b : List ℕ} {a k n : ℕ} (q : Holding b a k) (s : Asked n) {t : Taken} {c : List ℕ} (g : Allocates b n t c) where
-  pub not-carried : t ≡ NoRoom → Carried b a k n NoRoom c
+module _ {w : ℕ} {b : List ℕ} {a k n : ℕ} (q : Holding w b a k) (s : Asked w n) {t : Taken} {c : List ℕ} (g : Allocates w b n t c) where
+  pub not-carried : t ≡ NoRoom → Carried w b a k n NoRoom c
   not-carried e =
       record {
         is = λ L h.
-            let w = g .is L h in
-            let o : allocate wide n L ≡ none = taken-none (allocate wide n L) (sym e ∙ w .answer) in
-            rw o (record { answer = refl; bytes = rw o at (w .bytes); here = rw o at (w .here) });
+            let v = g .is L h in
+            let o : allocate (shape w) n L ≡ none = taken-none (allocate (shape w) n L) (sym e ∙ v .answer) in
+            rw o (record { answer = refl; bytes = rw o at (v .bytes); here = rw o at (v .here) });
       }
 
   module _ (x : Address) (e : t ≡ At x) where
-    chosen : (L : Layout) → Here wide b L → (m : Made) × (allocate wide n L ≡ some m) × (x .0 ≡ m .at)
-    chosen L h = taken-some (allocate wide n L) x (sym e ∙ g .is L h .answer)
+    chosen : (L : Layout) → Here (shape w) b L → (m : Made) × (allocate (shape w) n L ≡ some m) × (x .0 ≡ m .at)
+    chosen L h = taken-some (allocate (shape w) n L) x (sym e ∙ g .is L h .answer)
 
     pub room-to-copy : (bytes j : ℕ) → bytes ≡ length b → j ≡ min k n → Room bytes a (x .0) j
     room-to-copy bytes j eb ej =
@@ -90,14 +90,14 @@ module _ {b : List ℕ} {a k n : ℕ} (q : Holding b a k) (s : Asked n) {t : Tak
         let m = chosen L h in
         copy-room b a k n q s L h (m .0) (m .1) bytes (x .0) j eb (m .2) ej
 
-    pub was-carried : length c ≡ length b → (j : ℕ) → j ≡ min k n → (d : List ℕ) → d ≡ copied a (x .0) j c → Carried b a k n (At x) d
+    pub was-carried : length c ≡ length b → (j : ℕ) → j ≡ min k n → (d : List ℕ) → d ≡ copied a (x .0) j c → Carried w b a k n (At x) d
     was-carried ec j ej d ed =
         record {
           is = λ L h.
-              let w = g .is L h in
+              let v = g .is L h in
               let m = chosen L h in
-              let ec′ : c ≡ drawn wide (m .0 .layout) b = rw (m .1) at (w .bytes) in
-              let hc : Here wide c (m .0 .layout) = rw (m .1) at (w .here) in
+              let ec′ : c ≡ drawn (shape w) (m .0 .layout) b = rw (m .1) at (v .bytes) in
+              let hc : Here (shape w) c (m .0 .layout) = rw (m .1) at (v .here) in
               rw (m .1)
               (record {
                 answer = ap (λ (y : ℕ). At (record { 0 = y })) (m .2);

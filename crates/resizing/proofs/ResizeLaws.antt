@@ -10,7 +10,7 @@ use Rattle.words.specs.Copy.{copied}
 use Rattle.words.proofs.WordLaws.{Bytes}
 use Rattle.model.specs.declared.Address.{Address}
 use Rattle.model.specs.declared.Position.{Position}
-use Rattle.model.specs.Shape.{wide, endOf, classOf, offsetOf}
+use Rattle.model.specs.Shape.{shape, endOf, classOf, offsetOf, start, leastTaken, largest}
 use Rattle.model.specs.Layout.{Layout}
 use Rattle.model.specs.Sound.{Here}
 use Rattle.model.specs.Rules.{Spot, Made, Found, block, thing, nothing, find, allocate, capacity, stays, freed}
@@ -47,189 +47,189 @@ true-not-false : true ≡ false → ⊥
 true-not-false e = let z : _≡_ {A = ℕ} 0 1 = cc in omega arith
 
 -- a move that found no room, and one that did
-module _ {b : List ℕ} {a k n : ℕ} {t : Taken} {c : List ℕ} (g : Carried b a k n t c) where
-  pub moved-nowhere : t ≡ NoRoom → Moves b a n to.NoRoom c
+module _ {w : ℕ} {b : List ℕ} {a k n : ℕ} {t : Taken} {c : List ℕ} (g : Carried w b a k n t c) where
+  pub moved-nowhere : t ≡ NoRoom → Moves w b a n to.NoRoom c
   moved-nowhere e =
       record {
         is = λ L h.
-            let w = g .is L h in
-            let o : allocate wide n L ≡ none = taken-none (allocate wide n L) (sym e ∙ w .answer) in
-            let ec : c ≡ b = rw o at (w .bytes) in
+            let v = g .is L h in
+            let o : allocate (shape w) n L ≡ none = taken-none (allocate (shape w) n L) (sym e ∙ v .answer) in
+            let ec : c ≡ b = rw o at (v .bytes) in
             rw o (ap (λ (y : List ℕ). refused y noRoom) ec);
       }
 
-  module _ (q : Holding b a k) (s : Asked n) (x : Address) (e : t ≡ At x) where
-    pub chosen : (L : Layout) → Here wide b L → (m : Made) × (allocate wide n L ≡ some m) × (x .0 ≡ m .at)
-    chosen L h = taken-some (allocate wide n L) x (sym e ∙ g .is L h .answer)
+  module _ (q : Holding w b a k) (s : Asked w n) (x : Address) (e : t ≡ At x) where
+    pub chosen : (L : Layout) → Here (shape w) b L → (m : Made) × (allocate (shape w) n L ≡ some m) × (x .0 ≡ m .at)
+    chosen L h = taken-some (allocate (shape w) n L) x (sym e ∙ g .is L h .answer)
 
-    pub carried-in : (L : Layout) (h : Here wide b L) → Here wide c (chosen L h .0 .layout)
+    pub carried-in : (L : Layout) (h : Here (shape w) b L) → Here (shape w) c (chosen L h .0 .layout)
     carried-in L h = rw (chosen L h .1) at (g .is L h .here)
 
-    pub ready-after : length c ≡ length b → Ready c
-    ready-after l = record { sound = record { layout = chosen (q .ready .sound .layout) (q .ready .sound .here) .0 .layout; here = carried-in (q .ready .sound .layout) (q .ready .sound .here) }; short = omega (arith, q .ready .short) }
+    pub ready-after : length c ≡ length b → Ready w c
+    ready-after l = record { width = q .ready .width; sound = record { layout = chosen (q .ready .sound .layout) (q .ready .sound .here) .0 .layout; here = carried-in (q .ready .sound .layout) (q .ready .sound .here) }; short = rw l (q .ready .short) }
 
     -- the old place given back in the copied heap is the rule's last step
-    pub moved-to : (d : List ℕ) → ((L : Layout) (h : Here wide b L) → d ≡ drawn wide (without wide a (chosen L h .0 .layout)) c) → Moves b a n (to.To x) d
+    pub moved-to : (d : List ℕ) → ((L : Layout) (h : Here (shape w) b L) → d ≡ drawn (shape w) (without (shape w) a (chosen L h .0 .layout)) c) → Moves w b a n (to.To x) d
     moved-to d f =
         record {
           is = λ L h.
               let m = chosen L h in
-              let ec : c ≡ copied a (m .0 .at) (min k n) (drawn wide (m .0 .layout) b) = rw (m .1) at (g .is L h .bytes) in
-              let ek : c ≡ copied a (m .0 .at) (min (capacity wide (find wide a L)) n) (drawn wide (m .0 .layout) b) = ec ∙ ap (λ (y : ℕ). copied a (m .0 .at) (min y n) (drawn wide (m .0 .layout) b)) (q .large L h) in
-              let all : d ≡ drawn wide (without wide a (m .0 .layout)) (copied a (m .0 .at) (min (capacity wide (find wide a L)) n) (drawn wide (m .0 .layout) b)) = f L h ∙ ap (λ (y : List ℕ). drawn wide (without wide a (m .0 .layout)) y) ek in
+              let ec : c ≡ copied a (m .0 .at) (min k n) (drawn (shape w) (m .0 .layout) b) = rw (m .1) at (g .is L h .bytes) in
+              let ek : c ≡ copied a (m .0 .at) (min (capacity (shape w) (find (shape w) a L)) n) (drawn (shape w) (m .0 .layout) b) = ec ∙ ap (λ (y : ℕ). copied a (m .0 .at) (min y n) (drawn (shape w) (m .0 .layout) b)) (q .large L h) in
+              let all : d ≡ drawn (shape w) (without (shape w) a (m .0 .layout)) (copied a (m .0 .at) (min (capacity (shape w) (find (shape w) a L)) n) (drawn (shape w) (m .0 .layout) b)) = f L h ∙ ap (λ (y : List ℕ). drawn (shape w) (without (shape w) a (m .0 .layout)) y) ek in
               ap (λ (y : ℕ). granted y d) (m .2) ∙ ap (λ (y : List ℕ). granted (m .0 .at) y) all
-              ∙ ap (λ (o : Option Made). made wide b o (λ (z : Made). drawn wide (without wide a (z .layout)) (copied a (z .at) (min (capacity wide (find wide a L)) n) (drawn wide (z .layout) b)))) (sym (m .1));
+              ∙ ap (λ (o : Option Made). made (shape w) b o (λ (z : Made). drawn (shape w) (without (shape w) a (z .layout)) (copied a (z .at) (min (capacity (shape w) (find (shape w) a L)) n) (drawn (shape w) (z .layout) b)))) (sym (m .1));
         }
 
-    pub freed-to : (r : Bool) (d : List ℕ) → Bytes c → Freed c a r d → Moves b a n (to.To x) d
+    pub freed-to : (r : Bool) (d : List ℕ) → Bytes c → Freed w c a r d → Moves w b a n (to.To x) d
     unfolding freed
-    freed-to r d bytes f = moved-to d (λ L h. f .bytes (chosen L h .0 .layout) (carried-in L h) ∙ go (chosen L h .0 .layout) (carried-in L h) (find wide a (chosen L h .0 .layout)))
+    freed-to r d bytes f = moved-to d (λ L h. f .bytes (chosen L h .0 .layout) (carried-in L h) ∙ go (chosen L h .0 .layout) (carried-in L h) (find (shape w) a (chosen L h .0 .layout)))
       where
-        go : (M : Layout) → Here wide c M → (y : Found) → freedBytes c M y ≡ drawn wide (freed wide y M) c
+        go : (M : Layout) → Here (shape w) c M → (y : Found) → freedBytes w c M y ≡ drawn (shape w) (freed (shape w) y M) c
         go M i nothing = drawn-same c M i bytes
         go M i (block u) = refl
         go M i (thing o d) = refl
 
 -- in place or by a move, of something that is live
-module _ (b : List ℕ) (a n : ℕ) (L : Layout) (live : find wide a L ≡ nothing → ⊥) where
-  found-there : (f : Found) → (f ≡ nothing → ⊥) → (x y : Outcome) → found wide f x y ≡ y
+module _ (w : ℕ) (b : List ℕ) (a n : ℕ) (L : Layout) (live : find (shape w) a L ≡ nothing → ⊥) where
+  found-there : (f : Found) → (f ≡ nothing → ⊥) → (x y : Outcome) → found (shape w) f x y ≡ y
   found-there nothing l x y = absurd (l refl)
   found-there (block t) l x y = refl
   found-there (thing o c) l x y = refl
 
   abbrev rule : Option Layout → Outcome
-  rule o = found wide (find wide a L) (refused b notLive) (resized wide b a (moved wide b a n L) o)
+  rule o = found (shape w) (find (shape w) a L) (refused b notLive) (resized (shape w) b a (moved (shape w) b a n L) o)
 
-  pub goes : (r : Outcome) → stays wide n (find wide a L) L ≡ none → r ≡ moved wide b a n L → r ≡ rule (stays wide n (find wide a L) L)
-  goes r s e = e ∙ sym (found-there (find wide a L) live (refused b notLive) (moved wide b a n L)) ∙ ap rule (sym s)
+  pub goes : (r : Outcome) → stays (shape w) n (find (shape w) a L) L ≡ none → r ≡ moved (shape w) b a n L → r ≡ rule (stays (shape w) n (find (shape w) a L) L)
+  goes r s e = e ∙ sym (found-there (find (shape w) a L) live (refused b notLive) (moved (shape w) b a n L)) ∙ ap rule (sym s)
 
-  pub remains : (c : List ℕ) (M : Layout) → stays wide n (find wide a L) L ≡ some M → c ≡ drawn wide M b → granted a c ≡ rule (stays wide n (find wide a L) L)
-  remains c M s e = ap (λ (y : List ℕ). granted a y) e ∙ sym (found-there (find wide a L) live (refused b notLive) (granted a (drawn wide M b))) ∙ ap rule (sym s)
+  pub remains : (c : List ℕ) (M : Layout) → stays (shape w) n (find (shape w) a L) L ≡ some M → c ≡ drawn (shape w) M b → granted a c ≡ rule (stays (shape w) n (find (shape w) a L) L)
+  remains c M s e = ap (λ (y : List ℕ). granted a y) e ∙ sym (found-there (find (shape w) a L) live (refused b notLive) (granted a (drawn (shape w) M b))) ∙ ap rule (sym s)
 
 -- an item
-module _ {b : List ℕ} {a q c : ℕ} (i : ItemAt b a q c) where
-  is-live : (L : Layout) → Here wide b L → find wide a L ≡ nothing → ⊥
-  is-live L h e = not-nothing-item (offsetOf wide q) c (sym (i .is L h) ∙ e)
+module _ {w : ℕ} {b : List ℕ} {a q c : ℕ} (i : ItemAt w b a q c) where
+  is-live : (L : Layout) → Here (shape w) b L → find (shape w) a L ≡ nothing → ⊥
+  is-live L h e = not-nothing-item (offsetOf (shape w) q) c (sym (i .is L h) ∙ e)
 
-  pub few : c < 32
+  pub few : c < 4 * w
   few =
       let L = i .ready .sound .layout in
       let h = i .ready .sound .here in
-      item-found wide (omega arith) a (offsetOf wide q) c 312 (L .blocks) (omega arith) (h .valid .allowed) (i .is L h) .class
+      item-found (shape w) (omega arith) a (offsetOf (shape w) q) c (start (shape w)) (L .blocks) (omega arith) (h .valid .allowed) (i .is L h) .class
 
-  pub item-holds : Holding b a (8 * c + 8)
-  item-holds = record { ready = i .ready; live = is-live; large = λ L h. ap (capacity wide) (sym (i .is L h)) }
+  pub item-holds : Holding w b a (8 * c + 8)
+  item-holds = record { ready = i .ready; live = is-live; large = λ L h. ap (capacity (shape w)) (sym (i .is L h)) }
 
-  pub same-class : {n : ℕ} (k : ℕ) → k ≡ classOf n → k ≡ c → Bytes b → Resizes b a n (to.To (record { 0 = a })) b
+  pub same-class : {n : ℕ} (k : ℕ) → k ≡ classOf n → k ≡ c → Bytes b → Resizes w b a n (to.To (record { 0 = a })) b
   same-class {n} k e f bytes =
       record {
         is = λ L h.
-            let s : stays wide n (find wide a L) L ≡ some L = ap (λ (y : Found). stays wide n y L) (i .is L h) ∙ item-stays wide n (offsetOf wide q) c L few (sym e ∙ f) in
-            remains b a n L (is-live L h) b L s (drawn-same b L h bytes);
+            let s : stays (shape w) n (find (shape w) a L) L ≡ some L = ap (λ (y : Found). stays (shape w) n y L) (i .is L h) ∙ item-stays (shape w) n (offsetOf (shape w) q) c L few (sym e ∙ f) in
+            remains w b a n L (is-live L h) b L s (drawn-same b L h bytes);
       }
 
-  pub item-goes : {n : ℕ} (k : ℕ) → k ≡ classOf n → (k ≡ c → ⊥) → (r : Resized) (d : List ℕ) → Moves b a n r d → Resizes b a n r d
+  pub item-goes : {n : ℕ} (k : ℕ) → k ≡ classOf n → (k ≡ c → ⊥) → (r : Resized) (d : List ℕ) → Moves w b a n r d → Resizes w b a n r d
   item-goes {n} k e f r d g =
       record {
         is = λ L h.
-            let s : stays wide n (find wide a L) L ≡ none = ap (λ (y : Found). stays wide n y L) (i .is L h) ∙ item-moves wide n (offsetOf wide q) c L (λ z. f (e ∙ z)) in
-            goes b a n L (is-live L h) (outcomeOf r d) s (g .is L h);
+            let s : stays (shape w) n (find (shape w) a L) L ≡ none = ap (λ (y : Found). stays (shape w) n y L) (i .is L h) ∙ item-moves (shape w) n (offsetOf (shape w) q) c L (λ z. f (e ∙ z)) in
+            goes w b a n L (is-live L h) (outcomeOf r d) s (g .is L h);
       }
 
-  module _ {n : ℕ} {t : Taken} {d : List ℕ} (g : Carried b a (8 * c + 8) n t d) (s : Asked n) (x : Address) (e : t ≡ At x) where
-    again : (L : Layout) (h : Here wide b L) → find wide a (chosen g item-holds s x e L h .0 .layout) ≡ thing (offsetOf wide q) c
+  module _ {n : ℕ} {t : Taken} {d : List ℕ} (g : Carried w b a (8 * c + 8) n t d) (s : Asked w n) (x : Address) (e : t ≡ At x) where
+    again : (L : Layout) (h : Here (shape w) b L) → find (shape w) a (chosen g item-holds s x e L h .0 .layout) ≡ thing (offsetOf (shape w) q) c
     again L h =
         let m = chosen g item-holds s x e L h in
-        let f = item-found wide (omega arith) a (offsetOf wide q) c 312 (L .blocks) (omega arith) (h .valid .allowed) (i .is L h) in
+        let f = item-found (shape w) (omega arith) a (offsetOf (shape w) q) c (start (shape w)) (L .blocks) (omega arith) (h .valid .allowed) (i .is L h) in
         let hc = carried-in g item-holds s x e L h in
-        item-again wide (omega arith) (endOf (length d)) (m .0 .layout) (hc .valid) a (offsetOf wide q) c few (f .at)
+        item-again (shape w) (omega arith) (endOf (length d)) (m .0 .layout) (hc .valid) a (offsetOf (shape w) q) c few (f .at)
         (rw (i .is L h) at (old-live b a (8 * c + 8) n item-holds s L h (m .0) (m .1)))
 
-    pub item-still : length d ≡ length b → ItemLive d q c
+    pub item-still : length d ≡ length b → ItemLive w d q c
     item-still l =
         let L = i .ready .sound .layout in
         let h = i .ready .sound .here in
-        record { layout = chosen g item-holds s x e L h .0 .layout; here = carried-in g item-holds s x e L h; short = omega (arith, i .ready .short); low = i .low; address = a; found = again L h }
+        record { width = i .ready .width; layout = chosen g item-holds s x e L h .0 .layout; here = carried-in g item-holds s x e L h; short = rw l (i .ready .short); low = i .low; address = a; found = again L h }
 
-    pub item-gone : (k : ℕ) → k ≡ classOf n → (k ≡ c → ⊥) → (d′ : List ℕ) → GaveItem d q c d′ → Resizes b a n (to.To x) d′
-    item-gone k ek f d′ w =
+    pub item-gone : (k : ℕ) → k ≡ classOf n → (k ≡ c → ⊥) → (d′ : List ℕ) → GaveItem w d q c d′ → Resizes w b a n (to.To x) d′
+    item-gone k ek f d′ v =
         item-goes k ek f (to.To x) d′
         (moved-to g item-holds s x e d′ (λ L h.
-        w .draws (chosen g item-holds s x e L h .0 .layout) a (carried-in g item-holds s x e L h) (again L h)
-        ∙ ap (λ (y : Found). drawn wide (freed wide y (chosen g item-holds s x e L h .0 .layout)) d) (sym (again L h))))
+        v .draws (chosen g item-holds s x e L h .0 .layout) a (carried-in g item-holds s x e L h) (again L h)
+        ∙ ap (λ (y : Found). drawn (shape w) (freed (shape w) y (chosen g item-holds s x e L h .0 .layout)) d) (sym (again L h))))
 
 -- a variable block
-module _ {b : List ℕ} {a : ℕ} {x : Block} (i : BlockAt b a x) where
-  block-is-live : (L : Layout) → Here wide b L → find wide a L ≡ nothing → ⊥
+module _ {w : ℕ} {b : List ℕ} {a : ℕ} {x : Block} (i : BlockAt w b a x) where
+  block-is-live : (L : Layout) → Here (shape w) b L → find (shape w) a L ≡ nothing → ⊥
   block-is-live L h e = not-nothing-block (i .is L h .0) (sym (i .is L h .1 .found) ∙ e)
 
-  pub block-large : 280 ≤ x .size
+  pub block-large : leastTaken (shape w) ≤ x .size
   block-large =
       let L = i .ready .sound .layout in
       let h = i .ready .sound .here in
-      omega (arith, taken-large wide (omega arith) (endOf (length b)) L (h .valid) a (i .is L h .0) (i .is L h .1 .found), i .is L h .1 .size)
+      omega (arith, taken-large (shape w) (omega arith) (endOf (length b)) L (h .valid) a (i .is L h .0) (i .is L h .1 .found), i .is L h .1 .size)
 
-  pub block-holds : Holding b a (x .size - 16)
+  pub block-holds : Holding w b a (x .size - 2 * w)
   block-holds =
       record {
         ready = i .ready;
         live = block-is-live;
-        large = λ L h. let w = i .is L h in ap (λ (y : ℕ). y - 16) (sym (w .1 .size)) ∙ ap (capacity wide) (sym (w .1 .found));
+        large = λ L h. let v = i .is L h in ap (λ (y : ℕ). y - 2 * w) (sym (v .1 .size)) ∙ ap (capacity (shape w)) (sym (v .1 .found));
       }
 
-  pub block-there : BlockLive b x
+  pub block-there : BlockLive w b x
   block-there =
       let L = i .ready .sound .layout in
       let h = i .ready .sound .here in
-      record { layout = L; here = h; short = i .ready .short; address = a; spot = i .is L h .0; found = i .is L h .1 }
+      record { width = i .ready .width; layout = L; here = h; short = i .ready .short; address = a; spot = i .is L h .0; found = i .is L h .1 }
 
-  pub small-goes : {n : ℕ} → n ≤ 256 → (r : Resized) (d : List ℕ) → Moves b a n r d → Resizes b a n r d
+  pub small-goes : {n : ℕ} → n ≤ largest (shape w) → (r : Resized) (d : List ℕ) → Moves w b a n r d → Resizes w b a n r d
   small-goes {n} l r d g =
       record {
         is = λ L h.
-            let s : stays wide n (find wide a L) L ≡ none = ap (λ (y : Found). stays wide n y L) (i .is L h .1 .found) ∙ small-moves wide n (i .is L h .0) L l in
-            goes b a n L (block-is-live L h) (outcomeOf r d) s (g .is L h);
+            let s : stays (shape w) n (find (shape w) a L) L ≡ none = ap (λ (y : Found). stays (shape w) n y L) (i .is L h .1 .found) ∙ small-moves (shape w) n (i .is L h .0) L l in
+            goes w b a n L (block-is-live L h) (outcomeOf r d) s (g .is L h);
       }
 
-  module _ {n : ℕ} {r : Bool} {c : List ℕ} (g : Reshaped b x n r c) where
-    told : (L : Layout) (h : Here wide b L) → Stays b L (stays wide n (find wide a L) L) r c
-    told L h = let w = i .is L h in rw (w .1 .found) (g .is L a (w .0) h (w .1))
+  module _ {n : ℕ} {r : Bool} {c : List ℕ} (g : Reshaped w b x n r c) where
+    told : (L : Layout) (h : Here (shape w) b L) → Stays w b L (stays (shape w) n (find (shape w) a L) L) r c
+    told L h = let v = i .is L h in rw (v .1 .found) (g .is L a (v .0) h (v .1))
 
-    pub reshaped-there : r ≡ true → Resizes b a n (to.To (record { 0 = a })) c
-    reshaped-there e = record { is = λ L h. go L h (stays wide n (find wide a L) L) refl (told L h) }
+    pub reshaped-there : r ≡ true → Resizes w b a n (to.To (record { 0 = a })) c
+    reshaped-there e = record { is = λ L h. go L h (stays (shape w) n (find (shape w) a L) L) refl (told L h) }
       where
-        go : (L : Layout) (h : Here wide b L) (o : Option Layout) → stays wide n (find wide a L) L ≡ o → Stays b L o r c → granted a c ≡ rule b a n L (block-is-live L h) (stays wide n (find wide a L) L)
-        go L h none s w = absurd (true-not-false (sym e ∙ w .answer))
-        go L h (some M) s w = remains b a n L (block-is-live L h) c M s (w .bytes)
+        go : (L : Layout) (h : Here (shape w) b L) (o : Option Layout) → stays (shape w) n (find (shape w) a L) L ≡ o → Stays w b L o r c → granted a c ≡ rule w b a n L (block-is-live L h) (stays (shape w) n (find (shape w) a L) L)
+        go L h none s v = absurd (true-not-false (sym e ∙ v .answer))
+        go L h (some M) s v = remains w b a n L (block-is-live L h) c M s (v .bytes)
 
-    none-of : (L : Layout) (o : Option Layout) → r ≡ false → Stays b L o r c → (o ≡ none) × (c ≡ b)
-    none-of L none e w = (refl, w .bytes)
-    none-of L (some M) e w = absurd (true-not-false (sym (w .answer) ∙ e))
+    none-of : (L : Layout) (o : Option Layout) → r ≡ false → Stays w b L o r c → (o ≡ none) × (c ≡ b)
+    none-of L none e v = (refl, v .bytes)
+    none-of L (some M) e v = absurd (true-not-false (sym (v .answer) ∙ e))
 
     pub as-before : r ≡ false → c ≡ b
-    as-before e = let L = i .ready .sound .layout in none-of L (stays wide n (find wide a L) L) e (told L (i .ready .sound .here)) .1
+    as-before e = let L = i .ready .sound .layout in none-of L (stays (shape w) n (find (shape w) a L) L) e (told L (i .ready .sound .here)) .1
 
-    pub still-there : r ≡ false → BlockAt c a x
-    still-there e = subst (λ (y : List ℕ). BlockAt y a x) (sym (as-before e)) i
+    pub still-there : r ≡ false → BlockAt w c a x
+    still-there e = subst (λ (y : List ℕ). BlockAt w y a x) (sym (as-before e)) i
 
-    pub large-goes : r ≡ false → (y : Resized) (d : List ℕ) → Moves c a n y d → Resizes b a n y d
-    large-goes e y d w =
-        let w′ : Moves b a n y d = subst (λ (z : List ℕ). Moves z a n y d) (as-before e) w in
-        record { is = λ L h. goes b a n L (block-is-live L h) (outcomeOf y d) (none-of L (stays wide n (find wide a L) L) e (told L h) .0) (w′ .is L h) }
+    pub large-goes : r ≡ false → (y : Resized) (d : List ℕ) → Moves w c a n y d → Resizes w b a n y d
+    large-goes e y d v =
+        let w′ : Moves w b a n y d = subst (λ (z : List ℕ). Moves w z a n y d) (as-before e) v in
+        record { is = λ L h. goes w b a n L (block-is-live L h) (outcomeOf y d) (none-of L (stays (shape w) n (find (shape w) a L) L) e (told L h) .0) (w′ .is L h) }
 
 -- what is found
-module _ (b : List ℕ) (a : ℕ) (k : Ready b) (x : Live) (f : (L : Layout) → Here wide b L → Finds L a x) where
-  found-as : (y : Live) → x ≡ y → (L : Layout) → Here wide b L → Finds L a y
-  found-as y e L h = subst (λ (z : Live). Finds L a z) e (f L h)
+module _ {w : ℕ} (b : List ℕ) (a : ℕ) (k : Ready w b) (x : Live) (f : (L : Layout) → Here (shape w) b L → Finds w L a x) where
+  found-as : (y : Live) → x ≡ y → (L : Layout) → Here (shape w) b L → Finds w L a y
+  found-as y e L h = subst (λ (z : Live). Finds w L a z) e (f L h)
 
-  pub nothing-live : {n : ℕ} → x ≡ Nothing → Resizes b a n to.NotLive b
+  pub nothing-live : {n : ℕ} → x ≡ Nothing → Resizes w b a n to.NotLive b
   unfolding Finds
   nothing-live e = record { is = λ L h. rw (found-as Nothing e L h) refl }
 
-  pub item-at : (q : Position) (c : ℕ) → x ≡ Item q c → ItemAt b a (q .0) c
+  pub item-at : (q : Position) (c : ℕ) → x ≡ Item q c → ItemAt w b a (q .0) c
   unfolding Finds
   item-at q c e = record { ready = k; low = found-as (Item q c) e (k .sound .layout) (k .sound .here) .0; is = λ L h. found-as (Item q c) e L h .1 }
 
-  pub block-at : (y : Block) → x ≡ Variable y → BlockAt b a y
+  pub block-at : (y : Block) → x ≡ Variable y → BlockAt w b a y
   unfolding Finds
   block-at y e = record { ready = k; is = λ L h. found-as (Variable y) e L h }

@@ -4,7 +4,7 @@ use mathlib.Core.Path.{_≡_}
 use mathlib.Core.List.{List}
 use mathlib.Core.Option.{Option, none, some}
 use Rattle.words.specs.Copy.{copied}
-use Rattle.model.specs.Shape.{wide, offsetOf}
+use Rattle.model.specs.Shape.{shape, offsetOf, index}
 use Rattle.model.specs.Layout.{Layout}
 use Rattle.model.specs.Sound.{Here}
 use Rattle.model.specs.Rules.{Spot, Made, thing, nothing, find, allocate, stays, capacity}
@@ -19,33 +19,33 @@ use Rattle.find.specs.Find.{BlockFound}
 use Rattle.engine.specs.Allocate.{takenOf, layoutOf}
 
 -- something that holds k bytes is live at a
-pub record Holding (b : List ℕ) (a k : ℕ) : Type 0 where
-  pub ready : Ready b
-  pub live : (L : Layout) → Here wide b L → find wide a L ≡ nothing → ⊥
-  pub large : (L : Layout) → Here wide b L → k ≡ capacity wide (find wide a L)
+pub record Holding (w : ℕ) (b : List ℕ) (a k : ℕ) : Type 0 where
+  pub ready : Ready w b
+  pub live : (L : Layout) → Here (shape w) b L → find (shape w) a L ≡ nothing → ⊥
+  pub large : (L : Layout) → Here (shape w) b L → k ≡ capacity (shape w) (find (shape w) a L)
 
 -- the bytes once an allocation gave room for n, and the smaller of k and n bytes were copied there
-abbrev pub carriedBytes : List ℕ → ℕ → ℕ → ℕ → Option Made → List ℕ
-carriedBytes b a k n none = b
-carriedBytes b a k n (some m) = copied a (m .at) (min k n) (drawn wide (m .layout) b)
+abbrev pub carriedBytes : ℕ → List ℕ → ℕ → ℕ → ℕ → Option Made → List ℕ
+carriedBytes w b a k n none = b
+carriedBytes w b a k n (some m) = copied a (m .at) (min k n) (drawn (shape w) (m .layout) b)
 
-pub record CarriedIn (b : List ℕ) (L : Layout) (a k n : ℕ) (o : Option Made) (r : Taken) (c : List ℕ) : Type 0 where
+pub record CarriedIn (w : ℕ) (b : List ℕ) (L : Layout) (a k n : ℕ) (o : Option Made) (r : Taken) (c : List ℕ) : Type 0 where
   pub answer : r ≡ takenOf o
-  pub bytes : c ≡ carriedBytes b a k n o
-  pub here : Here wide c (layoutOf L o)
+  pub bytes : c ≡ carriedBytes w b a k n o
+  pub here : Here (shape w) c (layoutOf L o)
 
-pub record Carried (b : List ℕ) (a k n : ℕ) (r : Taken) (c : List ℕ) : Type 0 where
-  pub is : (L : Layout) → Here wide b L → CarriedIn b L a k n (allocate wide n L) r c
+pub record Carried (w : ℕ) (b : List ℕ) (a k n : ℕ) (r : Taken) (c : List ℕ) : Type 0 where
+  pub is : (L : Layout) → Here (shape w) b L → CarriedIn w b L a k n (allocate (shape w) n L) r c
 
 -- the item of class c with its header at q, and the variable block x, are live at a
-pub record ItemAt (b : List ℕ) (a q c : ℕ) : Type 0 where
-  pub ready : Ready b
-  pub low : 48 ≤ q
-  pub is : (L : Layout) → Here wide b L → find wide a L ≡ thing (offsetOf wide q) c
+pub record ItemAt (w : ℕ) (b : List ℕ) (a q c : ℕ) : Type 0 where
+  pub ready : Ready w b
+  pub low : index (shape w) ≤ q
+  pub is : (L : Layout) → Here (shape w) b L → find (shape w) a L ≡ thing (offsetOf (shape w) q) c
 
-pub record BlockAt (b : List ℕ) (a : ℕ) (x : Block) : Type 0 where
-  pub ready : Ready b
-  pub is : (L : Layout) → Here wide b L → ((t : Spot) × BlockFound L a t x)
+pub record BlockAt (w : ℕ) (b : List ℕ) (a : ℕ) (x : Block) : Type 0 where
+  pub ready : Ready w b
+  pub is : (L : Layout) → Here (shape w) b L → ((t : Spot) × BlockFound w L a t x)
 
 -- what an answer says: the refusal or the address, with the bytes
 abbrev pub outcomeOf : Resized → List ℕ → Outcome
@@ -54,9 +54,9 @@ outcomeOf NotLive c = refused c notLive
 outcomeOf NoRoom c = refused c noRoom
 
 -- the record moved
-pub record Moves (b : List ℕ) (a n : ℕ) (r : Resized) (c : List ℕ) : Type 0 where
-  pub is : (L : Layout) → Here wide b L → outcomeOf r c ≡ moved wide b a n L
+pub record Moves (w : ℕ) (b : List ℕ) (a n : ℕ) (r : Resized) (c : List ℕ) : Type 0 where
+  pub is : (L : Layout) → Here (shape w) b L → outcomeOf r c ≡ moved (shape w) b a n L
 
 -- the record resized
-pub record Resizes (b : List ℕ) (a n : ℕ) (r : Resized) (c : List ℕ) : Type 0 where
-  pub is : (L : Layout) → Here wide b L → outcomeOf r c ≡ found wide (find wide a L) (refused b notLive) (resized wide b a (moved wide b a n L) (stays wide n (find wide a L) L))
+pub record Resizes (w : ℕ) (b : List ℕ) (a n : ℕ) (r : Resized) (c : List ℕ) : Type 0 where
+  pub is : (L : Layout) → Here (shape w) b L → outcomeOf r c ≡ found (shape w) (find (shape w) a L) (refused b notLive) (resized (shape w) b a (moved (shape w) b a n L) (stays (shape w) n (find (shape w) a L) L))

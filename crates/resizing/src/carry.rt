@@ -1,6 +1,7 @@
 // The first half of a move: room is found while the old record still stands, and its bytes are copied there.
 use engine::allocate::Taken;
 use engine::allocate::allocate;
+use model::Address;
 use words::bytes::copy;
 ghost use mathlib.Core.Path.{_≡_};
 ghost use Prim.Native.Nat.{min};
@@ -15,16 +16,16 @@ fn smaller(k: usize, n: usize) -> usize
 }
 
 // Allocates n bytes, and copies there what fits of the k bytes of the record at a.
-pub fn carry(h: &mut [u8], a: usize, k: usize, n: usize) -> Taken
-    requires { ⌜ Holding (now h) a k ⌝ }
-    requires { ⌜ Asked n ⌝ }
-    ensures { λ r. ⌜ Carried (now (h .entry)) a k n r (now (h .exit)) ⌝ }
+pub fn carry(w: usize, h: &mut [u8], a: Address, k: usize, n: usize) -> Taken
+    requires { ⌜ Holding w (now h) (a .0) k ⌝ }
+    requires { ⌜ Asked w n ⌝ }
+    ensures { λ r. ⌜ Carried w (now (h .entry)) (a .0) k n r (now (h .exit)) ⌝ }
 {
-    let t = allocate(h, n);
+    let t = allocate(w, h, n);
     match t {
         Taken::NoRoom => Taken::NoRoom,
         Taken::At(new) => {
-            copy(h, a, new.0, smaller(k, n));
+            copy(h, a.0, new.0, smaller(k, n));
             Taken::At(new)
         }
     }

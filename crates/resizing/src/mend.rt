@@ -5,15 +5,15 @@ use words::word;
 ghost use Rattle.resizing.specs.Mend.{Mendable, Mended};
 
 // The block x as it is found now; `before` is the free block that stood before the one at x's prev.
-pub fn mend(h: &[u8], x: Block, before: usize) -> Block
-    requires { ⌜ Mendable (now h) x before ⌝ }
-    ensures { λ r. ⌜ Mended (now (h .entry)) x before r ⌝ }
+pub fn mend(w: usize, h: &[u8], x: Block, before: Position) -> Block
+    requires { ⌜ Mendable w (now h) x (before .0) ⌝ }
+    ensures { λ r. ⌜ Mended w (now (h .entry)) x (before .0) r ⌝ }
 {
     let prev = x.prev.0;
     if prev == 0 {
         return x;
     }
-    let t = word(h, prev);
+    let t = word(w, h, prev);
     if t % 8 == 0 {
         return x;
     }
@@ -21,7 +21,7 @@ pub fn mend(h: &[u8], x: Block, before: usize) -> Block
     let at = x.at;
     let size = x.size;
     let left = x.left;
-    if word(h, q) % 8 == 0 {
+    if word(w, h, q) % 8 == 0 {
         return Block {
             at: at,
             size: size,
@@ -32,7 +32,7 @@ pub fn mend(h: &[u8], x: Block, before: usize) -> Block
     Block {
         at: at,
         size: size,
-        prev: Position(before),
+        prev: before,
         left: 0,
     }
 }

@@ -7,26 +7,28 @@ use engine::release::right_edge;
 use find::Block;
 use links::back_at;
 use links::link_at;
+use model::Position;
 use model::need_of;
 use words::word;
 ghost use Rattle.engine.specs.Release.{BlockLive};
 ghost use Rattle.resizing.specs.Resize.{Reach, Large, Reshaped};
 
 // The block x and a free neighbour behind it, read as one gap.
-fn reach(h: &[u8], x: Block) -> Gap
-    requires { ⌜ BlockLive (now h) x ⌝ }
-    ensures { λ r. ⌜ Reach (now (h .entry)) x r ⌝ }
+fn reach(w: usize, h: &[u8], x: Block) -> Gap
+    requires { ⌜ BlockLive w (now h) x ⌝ }
+    ensures { λ r. ⌜ Reach w (now (h .entry)) x r ⌝ }
 {
-    let p = x.at.0;
-    let prev = x.prev.0;
-    let link = link_at(prev);
-    let next = word(h, link);
-    let edge = right_edge(h, p + x.size, next);
-    let back = back_at(h, edge.free);
+    let at = x.at;
+    let prev = x.prev;
+    let link = link_at(w, prev);
+    let after = Position(word(w, h, link.0));
+    let edge = right_edge(w, h, Position(at.0 + x.size), after);
+    let next = edge.free;
+    let back = back_at(w, h, next);
     Gap {
-        at: p,
-        size: edge.at - p,
-        next: edge.free,
+        at: at,
+        size: edge.at.0 - at.0,
+        next: next,
         prev: prev,
         link: link,
         back: back,
@@ -34,23 +36,23 @@ fn reach(h: &[u8], x: Block) -> Gap
 }
 
 // Resizes the block x to n bytes where it stands: true; or false where it must move, and nothing changes.
-pub fn reshape(h: &mut [u8], x: Block, n: usize) -> bool
-    requires { ⌜ BlockLive (now h) x ⌝ }
-    requires { ⌜ Large n ⌝ }
-    ensures { λ r. ⌜ Reshaped (now (h .entry)) x n r (now (h .exit)) ⌝ }
+pub fn reshape(w: usize, h: &mut [u8], x: Block, n: usize) -> bool
+    requires { ⌜ BlockLive w (now h) x ⌝ }
+    requires { ⌜ Large w n ⌝ }
+    ensures { λ r. ⌜ Reshaped w (now (h .entry)) x n r (now (h .exit)) ⌝ }
 {
-    let need = need_of(n);
-    let g = reach(h, x);
+    let need = need_of(w, n);
+    let g = reach(w, h, x);
     if g.size < need {
         return false;
     }
     if need <= x.size {
-        if x.size < need + 32 {
+        if x.size < need + 4 * w {
             return true;
         }
     }
-    let u = taken(need, g.size);
-    put_low(h, g, u, 2);
-    put_high(h, g, u, 2);
+    let u = taken(w, need, g.size);
+    put_low(w, h, g, u, 2);
+    put_high(w, h, g, u, 2);
     true
 }

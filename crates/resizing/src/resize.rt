@@ -25,67 +25,67 @@ pub enum Resized {
 }
 
 // The item of class c with its header at q.
-fn resize_item(h: &mut [u8], a: usize, q: Position, c: usize, n: usize) -> Resized
-    requires { ⌜ ItemAt (now h) a (q .0) c ⌝ }
-    requires { ⌜ Asked n ⌝ }
-    ensures { λ r. ⌜ Resizes (now (h .entry)) a n r (now (h .exit)) ⌝ }
+fn resize_item(w: usize, h: &mut [u8], a: Address, q: Position, c: usize, n: usize) -> Resized
+    requires { ⌜ ItemAt w (now h) (a .0) (q .0) c ⌝ }
+    requires { ⌜ Asked w n ⌝ }
+    ensures { λ r. ⌜ Resizes w (now (h .entry)) (a .0) n r (now (h .exit)) ⌝ }
 {
     if class_of(n) == c {
-        return Resized::To(Address(a));
+        return Resized::To(a);
     }
-    let t = carry(h, a, 8 * c + 8, n);
+    let t = carry(w, h, a, 8 * c + 8, n);
     match t {
         Taken::NoRoom => Resized::NoRoom,
         Taken::At(new) => {
-            give(h, q, c);
+            give(w, h, q, c);
             Resized::To(new)
         }
     }
 }
 
 // The variable block x by a move. The free block before it is read first: the allocation may take the one that stands between.
-fn move_block(h: &mut [u8], a: usize, x: Block, n: usize) -> Resized
-    requires { ⌜ BlockAt (now h) a x ⌝ }
-    requires { ⌜ Asked n ⌝ }
-    ensures { λ r. ⌜ Moves (now (h .entry)) a n r (now (h .exit)) ⌝ }
+fn move_block(w: usize, h: &mut [u8], a: Address, x: Block, n: usize) -> Resized
+    requires { ⌜ BlockAt w (now h) (a .0) x ⌝ }
+    requires { ⌜ Asked w n ⌝ }
+    ensures { λ r. ⌜ Moves w (now (h .entry)) (a .0) n r (now (h .exit)) ⌝ }
 {
-    let before = word(h, back_at(h, x.prev.0));
-    let t = carry(h, a, x.size - 16, n);
+    let before = Position(word(w, h, back_at(w, h, x.prev).0));
+    let t = carry(w, h, a, x.size - 2 * w, n);
     match t {
         Taken::NoRoom => Resized::NoRoom,
         Taken::At(new) => {
-            let y = mend(h, x, before);
-            release(h, y);
+            let y = mend(w, h, x, before);
+            release(w, h, y);
             Resized::To(new)
         }
     }
 }
 
 // The variable block x.
-fn resize_block(h: &mut [u8], a: usize, x: Block, n: usize) -> Resized
-    requires { ⌜ BlockAt (now h) a x ⌝ }
-    requires { ⌜ Asked n ⌝ }
-    ensures { λ r. ⌜ Resizes (now (h .entry)) a n r (now (h .exit)) ⌝ }
+fn resize_block(w: usize, h: &mut [u8], a: Address, x: Block, n: usize) -> Resized
+    requires { ⌜ BlockAt w (now h) (a .0) x ⌝ }
+    requires { ⌜ Asked w n ⌝ }
+    ensures { λ r. ⌜ Resizes w (now (h .entry)) (a .0) n r (now (h .exit)) ⌝ }
 {
-    if n <= 256 {
-        return move_block(h, a, x, n);
+    if n <= 32 * w {
+        return move_block(w, h, a, x, n);
     }
-    if reshape(h, x, n) {
-        return Resized::To(Address(a));
+    if reshape(w, h, x, n) {
+        return Resized::To(a);
     }
-    move_block(h, a, x, n)
+    move_block(w, h, a, x, n)
 }
 
 // Resizes what is live at a to n bytes.
-pub fn resize(h: &mut [u8], a: usize, n: usize) -> Resized
-    requires { ⌜ Ready (now h) ⌝ }
-    requires { ⌜ Asked n ⌝ }
-    ensures { λ r. ⌜ Resizes (now (h .entry)) a n r (now (h .exit)) ⌝ }
+pub fn resize(w: usize, h: &mut [u8], a: Address, n: usize) -> Resized
+    requires { ⌜ Ready w (now h) ⌝ }
+    requires { ⌜ Asked w n ⌝ }
+    ensures { λ r. ⌜ Resizes w (now (h .entry)) (a .0) n r (now (h .exit)) ⌝ }
 {
-    let x = find(h, a);
+    let x = find(w, h, a);
     match x {
         Live::Nothing => Resized::NotLive,
-        Live::Item(q, c) => resize_item(h, a, q, c, n),
-        Live::Variable(b) => resize_block(h, a, b, n),
+        Live::Item(q, c) => resize_item(w, h, a, q, c, n),
+        Live::Variable(b) => resize_block(w, h, a, b, n),
     }
 }

@@ -1,13 +1,14 @@
--- Bytes that pass the tests are a sound heap. (At document 01's shape.)
+-- Bytes that pass the tests are a sound heap.
 use Prim.Native.Nat.{ℕ, _+_, _-_, _*_, _≤_, _<_}
 use mathlib.Core.Path.{_≡_, refl, sym, ap, _∙_}
 use mathlib.Core.List.{List, [], _∷_, _++_}
 use native.Mathlib.Omega.{arith}
 use lib.ListN.{length, getD}
 use borrow.Author.Tests.{eq-eqb}
+use Rattle.words.specs.Width.{Width}
 use Rattle.words.specs.Word.{wordAt}
 use Rattle.model.specs.Picture.{Shows}
-use Rattle.model.specs.Shape.{wide, item, endOf}
+use Rattle.model.specs.Shape.{shape, item, endOf, index, start}
 use Rattle.model.specs.Layout.{Slot, idle, held, variable, page, Block, free, used, Layout, nextOf, useSize, sizeOf, header, slotWords, useWords, own, blockWords, headWords, fixedLow, fixedHigh, words}
 use Rattle.model.specs.Sound.{times, AllowedUse, Allowed, AllAllowed, idleSlots, idleIn, idleItems, Here, Sound}
 use Rattle.model.proofs.Pictures.{shows-append}
@@ -17,46 +18,46 @@ use Rattle.sound.specs.Lists.{Chains, Filled}
 use Rattle.sound.specs.Parts.{Fixed}
 use Rattle.sound.proofs.Chained.{chain-head, chain-next, chains-at, chains-length}
 
-module _ (b : List ℕ) (ls : List (List ℕ)) where
+module _ {w : ℕ} (wd : Width w) (b : List ℕ) (ls : List (List ℕ)) where
   -- the headers of free items are as the lists say
   abbrev Named : ℕ → List ℕ → Type 0
-  Named c os = (o : ℕ) → 1 ≤ times o os → wordAt 8 b (48 + o) ≡ 16 * nextOf o (getD ls c []) + 4 * c + 1
+  Named c os = (o : ℕ) → 1 ≤ times o os → wordAt w b (index (shape w) + o) ≡ 16 * nextOf o (getD ls c []) + 4 * c + 1
 
-  slots-show : (c p : ℕ) (ss : List Slot) → 48 ≤ p → Slots b c p ss → Named c (idleSlots wide c p ss) → Shows 8 b (slotWords wide c (getD ls c []) p ss)
+  slots-show : (c p : ℕ) (ss : List Slot) → index (shape w) ≤ p → Slots w b c p ss → Named c (idleSlots (shape w) c p ss) → Shows w b (slotWords (shape w) c (getD ls c []) p ss)
   unfolding Slots slotWords Shows header idleSlots times
   slots-show c p [] h s k = tt
   slots-show c p (idle ∷ ss) h s k =
-      let e : 48 + (p - 48) ≡ p = omega arith in
-      (ap (λ (x : ℕ). wordAt 8 b x) (sym e) ∙ k (p - 48) (rw (eq-eqb (p - 48) (p - 48) refl) (omega arith)), slots-show c (p + item wide c) ss (omega arith) (s .1) (λ o l. k o (omega arith)))
-  slots-show c p (held ∷ ss) h s k = (s .0, slots-show c (p + item wide c) ss (omega arith) (s .1) k)
+      let e : index (shape w) + (p - index (shape w)) ≡ p = omega arith in
+      (ap (λ (x : ℕ). wordAt w b x) (sym e) ∙ k (p - index (shape w)) (rw (eq-eqb (p - index (shape w)) (p - index (shape w)) refl) (omega arith)), slots-show c (p + item (shape w) c) ss (omega arith) (s .1) (λ o l. k o (omega arith)))
+  slots-show c p (held ∷ ss) h s k = (s .0, slots-show c (p + item (shape w) c) ss (omega arith) (s .1) k)
 
-  blocks-show : (p prev : ℕ) (bs : List Block) → 48 ≤ p → AllAllowed wide bs → Reads b p prev bs → ((c : ℕ) → c < 32 → Named c (idleItems wide c p bs)) → Shows 8 b (blockWords wide ls p prev 0 bs)
+  blocks-show : (p prev : ℕ) (bs : List Block) → index (shape w) ≤ p → AllAllowed (shape w) bs → Reads w b p prev bs → ((c : ℕ) → c < 4 * w → Named c (idleItems (shape w) c p bs)) → Shows w b (blockWords (shape w) ls p prev 0 bs)
   unfolding Reads flagOf Headers blockWords own useWords useSize sizeOf idleItems idleIn AllAllowed Allowed AllowedUse Shows
   blocks-show p prev [] h a r k = tt
   blocks-show p prev (free s ∷ bs) h a r k = (r .0 .0, (r .0 .1, (r .0 .2, (r .0 .3, blocks-show (p + s) p bs (omega arith) (a .1) (r .1) k))))
-  blocks-show p prev (used (variable s) ∷ bs) h a r k = (r .0 .0, (r .0 .1, blocks-show (p + useSize wide (variable s)) prev bs (omega arith) (a .1) (r .1) k))
+  blocks-show p prev (used (variable s) ∷ bs) h a r k = (r .0 .0, (r .0 .1, blocks-show (p + useSize (shape w) (variable s)) prev bs (omega arith) (a .1) (r .1) k))
   blocks-show p prev (used (page d k ss) ∷ bs) h a r l =
-      let z = useSize wide (page d k ss) in (
+      let z = useSize (shape w) (page d k ss) in (
         r .0 .0,
-        shows-append 8 b (slotWords wide d (getD ls d []) (p + 8) ss ++ record { at = p + z - 8; is = z + 3 } ∷ []) (blockWords wide ls (p + z) prev 0 bs)
-            (shows-append 8 b (slotWords wide d (getD ls d []) (p + 8) ss) (record { at = p + z - 8; is = z + 3 } ∷ [])
-            (slots-show d (p + 8) ss (omega arith) (r .0 .2)
-            (λ o i. l d (a .0 .0) o (rw (eq-eqb d d refl) (omega (arith, i, times-append o (idleSlots wide d (p + 8) ss) (idleItems wide d (p + z) bs))))))
+        shows-append w b (slotWords (shape w) d (getD ls d []) (p + w) ss ++ record { at = p + z - w; is = z + 3 } ∷ []) (blockWords (shape w) ls (p + z) prev 0 bs)
+            (shows-append w b (slotWords (shape w) d (getD ls d []) (p + w) ss) (record { at = p + z - w; is = z + 3 } ∷ [])
+            (slots-show d (p + w) ss (omega arith) (r .0 .2)
+            (λ o i. l d (a .0 .0) o (rw (eq-eqb d d refl) (omega (arith, i, times-append o (idleSlots (shape w) d (p + w) ss) (idleItems (shape w) d (p + z) bs))))))
             (r .0 .1, tt))
-            (blocks-show (p + z) prev bs (omega arith) (a .1) (r .1) (λ c h o i. l c h o (omega (arith, i, times-append o (idleIn wide c p (used (page d k ss))) (idleItems wide c (p + z) bs))))),
+            (blocks-show (p + z) prev bs (omega arith) (a .1) (r .1) (λ c h o i. l c h o (omega (arith, i, times-append o (idleIn (shape w) c p (used (page d k ss))) (idleItems (shape w) c (p + z) bs))))),
       )
 
 -- the heads of the lists
-heads-show : (b : List ℕ) (end p c : ℕ) (ls : List (List ℕ)) → p ≡ 48 + 8 * c → Chains b end c ls → Shows 8 b (headWords wide p ls)
+heads-show : {w : ℕ} → Width w → (b : List ℕ) (end p c : ℕ) (ls : List (List ℕ)) → p ≡ index (shape w) + w * c → Chains w b end c ls → Shows w b (headWords (shape w) p ls)
 unfolding Chains headWords Shows
-heads-show b end p c [] e k = tt
-heads-show b end p c (l ∷ ls) e k = (ap (λ (x : ℕ). wordAt 8 b x) e ∙ chain-head b end c (wordAt 8 b (48 + 8 * c)) l (k .1), heads-show b end (p + 8) (c + 1) ls (omega arith) (k .2))
+heads-show {w} wd b end p c [] e k = tt
+heads-show {w} wd b end p c (l ∷ ls) e k = (ap (λ (x : ℕ). wordAt w b x) e ∙ chain-head wd b end c (wordAt w b (index (shape w) + w * c)) l (k .1), heads-show wd b end (p + w) (c + 1) ls (omega arith) (k .2))
 
-module _ (b : List ℕ) (x : Fixed b (endOf (length b))) (k : Filled b (endOf (length b))) where
+module _ {w : ℕ} (wd : Width w) (b : List ℕ) (x : Fixed w b (endOf (length b))) (k : Filled w b (endOf (length b))) where
   abbrev pub layout : Layout
   layout = record { blocks = k .run .rest; lists = k .lists }
 
-  pub filled-here : Here wide b layout
+  pub filled-here : Here (shape w) b layout
   filled-here =
       record {
         magic = x .magic;
@@ -64,18 +65,18 @@ module _ (b : List ℕ) (x : Fixed b (endOf (length b))) (k : Filled b (endOf (l
           fills = k .run .fills;
           allowed = k .run .allowed;
           apart = k .run .apart;
-          classes = chains-length b (endOf (length b)) (k .lists) (k .chains);
+          classes = chains-length wd b (endOf (length b)) (k .lists) (k .chains);
           listed = λ c o h. k .same c o h;
         };
         shown = shown;
       }
     where
-      show-blocks : Shows 8 b (blockWords wide (k .lists) 312 0 0 (k .run .rest))
+      show-blocks : Shows w b (blockWords (shape w) (k .lists) (start (shape w)) 0 0 (k .run .rest))
       show-blocks =
-          blocks-show b (k .lists) 312 0 (k .run .rest) (omega arith) (k .run .allowed) (k .run .reads)
-          (λ c h o i. chain-next b (endOf (length b)) c (wordAt 8 b (48 + 8 * c)) (getD (k .lists) c []) (chains-at b (endOf (length b)) (k .lists) (k .chains) c h) o (rw (k .same c o h) i))
+          blocks-show wd b (k .lists) (start (shape w)) 0 (k .run .rest) (omega arith) (k .run .allowed) (k .run .reads)
+          (λ c h o i. chain-next wd b (endOf (length b)) c (wordAt w b (index (shape w) + w * c)) (getD (k .lists) c []) (chains-at wd b (endOf (length b)) (k .lists) (k .chains) c h) o (rw (k .same c o h) i))
 
-      shown : Shows 8 b (words wide (endOf (length b)) layout)
+      shown : Shows w b (words (shape w) (endOf (length b)) layout)
       shown = unfold words fixedLow fixedHigh Shows in (
         x .data-at,
         (
@@ -86,9 +87,9 @@ module _ (b : List ℕ) (x : Fixed b (endOf (length b))) (k : Filled b (endOf (l
               x .end-at,
               (
                 x .low-tag,
-                shows-append 8 b (headWords wide 48 (k .lists) ++ record { at = 304; is = 275 } ∷ []) (blockWords wide (k .lists) 312 0 0 (k .run .rest))
-                    (shows-append 8 b (headWords wide 48 (k .lists)) (record { at = 304; is = 275 } ∷ [])
-                    (heads-show b (endOf (length b)) 48 0 (k .lists) refl (k .chains)) (x .high-tag, tt))
+                shows-append w b (headWords (shape w) (index (shape w)) (k .lists) ++ record { at = start (shape w) - w; is = w * (4 * w) + 2 * w + 3 } ∷ []) (blockWords (shape w) (k .lists) (start (shape w)) 0 0 (k .run .rest))
+                    (shows-append w b (headWords (shape w) (index (shape w)) (k .lists)) (record { at = start (shape w) - w; is = w * (4 * w) + 2 * w + 3 } ∷ [])
+                    (heads-show wd b (endOf (length b)) (index (shape w)) 0 (k .lists) (omega arith) (k .chains)) (x .high-tag, tt))
                     show-blocks,
               ),
             ),
@@ -96,5 +97,5 @@ module _ (b : List ℕ) (x : Fixed b (endOf (length b))) (k : Filled b (endOf (l
         ),
       )
 
-pub sound-of : (b : List ℕ) → Fixed b (endOf (length b)) → Filled b (endOf (length b)) → Sound wide b
-sound-of b x k = record { layout = layout b x k; here = filled-here b x k }
+pub sound-of : {w : ℕ} → Width w → (b : List ℕ) → Fixed w b (endOf (length b)) → Filled w b (endOf (length b)) → Sound (shape w) b
+sound-of wd b x k = record { layout = layout wd b x k; here = filled-here wd b x k }

@@ -1,11 +1,12 @@
+pub mod Places
 pub mod Tellings
 pub mod MapLaws
 pub mod Pages
 pub mod Walks
 pub mod Chained
-pub mod Clearing
 pub mod ItemHeaders
 pub mod FilledHere
 pub mod HereFilled
 pub mod OneLayout
 pub mod Agree
+pub mod Counting

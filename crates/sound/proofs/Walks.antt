@@ -1,95 +1,88 @@
--- Laws of a walk over the blocks: what the tests at a tag tell of a run, and a run made longer by the block before it. (At document 01's shape.)
+-- Laws of a walk over the blocks: what the tests at a tag tell of a run, and a run made longer by the block before it.
 use Prim.Native.Nat.{ℕ, _+_, _-_, _*_, _%_, _≤_, _<_}
 use mathlib.Core.Path.{_≡_, refl, sym, _∙_}
 use mathlib.Core.List.{List, [], _∷_}
 use native.Mathlib.Omega.{arith}
-use native.Mathlib.Nat.{mul-le-mul-right}
 use lib.ListN.{length}
+use Rattle.words.specs.Width.{Width}
 use Rattle.words.specs.Word.{wordAt}
-use Rattle.model.specs.Shape.{wide}
+use Rattle.model.specs.Shape.{shape, start}
 use Rattle.model.specs.Layout.{Use, variable, page, Block, free, used, useSize, sizeOf, ends, firstFree}
 use Rattle.model.specs.Sound.{Allowed, AllowedUse, AllAllowed, Apart}
 use Rattle.model.proofs.Blocks.{le-ends}
+use Rattle.model.proofs.Sizes.{start-eight}
+use Rattle.model.proofs.Standing.{sizes}
 use Rattle.sound.specs.Runs.{flagOf, UseAt, Reads, Run, freeIn, freeItems}
 use Rattle.sound.specs.Maps.{Clear}
 use Rattle.sound.specs.Parts.{Sizes, Marking, UseMarked, UseTold, Walk, BlocksTold}
 use Rattle.sound.proofs.MapLaws.{adds-none, adds-append, marked-none, marked-pos, marking-on}
 
-pub use-size : (u : Use) → AllowedUse wide u → (16 ≤ useSize wide u) × (useSize wide u % 8 ≡ 0)
-unfolding AllowedUse useSize
-use-size (variable s) a = omega arith
-use-size (page c k ss) a = omega arith
+pub use-size : {w : ℕ} → Width w → (u : Use) → AllowedUse (shape w) u → (4 * w ≤ useSize (shape w) u) × (useSize (shape w) u % 8 ≡ 0)
+unfolding Allowed sizeOf
+use-size wd u a = sizes wd (used u) a
 
 pub use-flag : (u : Use) → (2 ≤ flagOf u) × (flagOf u ≤ 3)
 unfolding flagOf
 use-flag (variable s) = omega arith
 use-flag (page c k ss) = omega arith
 
-module _ {b : List ℕ} {end p prev d link : ℕ} where
+module _ {w : ℕ} (wd : Width w) {b : List ℕ} {end p prev d link : ℕ} where
   -- at the end
-  pub stop-in : p ≡ end → Run b end p prev d link → link ≡ 0
+  pub stop-in : p ≡ end → Run w b end p prev d link → link ≡ 0
   unfolding firstFree ends AllAllowed Allowed sizeOf
   stop-in e r = go (r .rest) (r .fills) (r .allowed) (r .links)
     where
-      go : (bs : List Block) → ends wide p bs ≡ end → AllAllowed wide bs → firstFree wide p bs 0 ≡ link → link ≡ 0
+      go : (bs : List Block) → ends (shape w) p bs ≡ end → AllAllowed (shape w) bs → firstFree (shape w) p bs 0 ≡ link → link ≡ 0
       go [] f a l = sym l
-      go (free s ∷ bs) f a l = absurd (omega (arith, le-ends wide (p + s) bs, a .0 .0))
-      go (used u ∷ bs) f a l = absurd (omega (arith, le-ends wide (p + useSize wide u) bs, use-size u (a .0)))
+      go (free s ∷ bs) f a l = absurd (omega (arith, le-ends (shape w) (p + s) bs, a .0 .0))
+      go (used u ∷ bs) f a l = absurd (omega (arith, le-ends (shape w) (p + useSize (shape w) u) bs, use-size wd u (a .0)))
 
-  pub stop-out : (m : List ℕ) → p ≡ end → link ≡ 0 → Walk b end p prev d link m m
+  pub stop-out : (m : List ℕ) → p ≡ end → link ≡ 0 → Walk w b end p prev d link m m
   unfolding Reads ends AllAllowed Apart firstFree freeItems
-  stop-out m e l = record { run = record { rest = []; reads = tt; fills = e; allowed = tt; apart = tt; links = sym l }; adds = adds-none m }
+  stop-out m e l = record { run = record { rest = []; reads = tt; fills = e; allowed = tt; apart = tt; links = sym l }; adds = adds-none wd m }
 
 -- what the tests at p find, where t is the tag there and s the size that it says
-pub record Passed (b : List ℕ) (end p prev d link t s : ℕ) : Type 0 where
-  pub big : 32 ≤ s
+pub record Passed (w : ℕ) (b : List ℕ) (end p prev d link t s : ℕ) : Type 0 where
+  pub big : 4 * w ≤ s
   pub inside : p + s ≤ end
-  pub tag : wordAt 8 b (p + s - 8) ≡ t
-  pub when-free : t % 8 ≡ 0 → (d ≡ 0) × (link ≡ p) × (wordAt 8 b (p + s - 16) ≡ prev) × Run b end (p + s) p 1 (wordAt 8 b (p + 8))
-  pub when-used : (t % 8 ≡ 0 → ⊥) → UseAt b p s (t % 8) × Run b end (p + s) prev 0 link
+  pub tag : wordAt w b (p + s - w) ≡ t
+  pub when-free : t % 8 ≡ 0 → (d ≡ 0) × (link ≡ p) × (wordAt w b (p + s - 2 * w) ≡ prev) × Run w b end (p + s) p 1 (wordAt w b (p + w))
+  pub when-used : (t % 8 ≡ 0 → ⊥) → UseAt w b p s (t % 8) × Run w b end (p + s) prev 0 link
 
-use-big : (u : Use) → AllowedUse wide u → 32 ≤ useSize wide u
-unfolding AllowedUse useSize
-use-big (variable s) a = omega arith
-use-big (page c k ss) a = omega (arith, one-item (length ss) (8 * c + 16) (omega (arith, a .1)))
-  where
-    one-item : (n k : ℕ) → 1 ≤ n → k ≤ n * k
-    one-item n k h = omega (arith, mul-le-mul-right k h)
-
-module _ {b : List ℕ} {end p prev d link : ℕ} (t s : ℕ) (et : t ≡ wordAt 8 b p) (es : s ≡ t - t % 8) where
-  pub passed : p < end → Run b end p prev d link → Passed b end p prev d link t s
+module _ {w : ℕ} (wd : Width w) {b : List ℕ} {end p prev d link : ℕ} (t s : ℕ) (et : t ≡ wordAt w b p) (es : s ≡ t - t % 8) where
+  pub passed : p < end → Run w b end p prev d link → Passed w b end p prev d link t s
   unfolding firstFree ends AllAllowed Allowed sizeOf Reads Apart
   passed q r = go (r .rest) (r .reads) (r .fills) (r .allowed) (r .apart) (r .links)
     where
-      go : (bs : List Block) → Reads b p prev bs → ends wide p bs ≡ end → AllAllowed wide bs → Apart d bs → firstFree wide p bs 0 ≡ link → Passed b end p prev d link t s
+      go : (bs : List Block) → Reads w b p prev bs → ends (shape w) p bs ≡ end → AllAllowed (shape w) bs → Apart d bs → firstFree (shape w) p bs 0 ≡ link → Passed w b end p prev d link t s
       go [] h f a n l = absurd (omega arith)
       go (free x ∷ bs) h f a n l =
           let e : s ≡ x = omega (arith, h .0 .0, a .0 .1) in
           rw e (record {
             big = a .0 .0;
-            inside = omega (arith, le-ends wide (p + x) bs);
+            inside = omega (arith, le-ends (shape w) (p + x) bs);
             tag = h .0 .3 ∙ sym (et ∙ h .0 .0);
             when-free = λ _. (omega (arith, n .0), sym l, h .0 .2, record { rest = bs; reads = h .1; fills = f; allowed = a .1; apart = n .1; links = sym (h .0 .1) });
             when-used = λ z. absurd (z (omega (arith, h .0 .0, a .0 .1)));
           })
       go (used u ∷ bs) h f a n l =
-          let z = use-size u (a .0) in
+          let z = use-size wd u (a .0) in
           let y = use-flag u in
-          let w : t ≡ useSize wide u + flagOf u = et ∙ h .0 .0 in
-          let e : s ≡ useSize wide u = omega (arith, z, y) in
+          let walk : t ≡ useSize (shape w) u + flagOf u = et ∙ h .0 .0 in
+          let e : s ≡ useSize (shape w) u = omega (arith, z, y) in
           let k : t % 8 ≡ flagOf u = omega (arith, z, y) in
           rw e (record {
-            big = use-big u (a .0);
-            inside = omega (arith, le-ends wide (p + useSize wide u) bs);
-            tag = h .0 .1 ∙ sym w;
+            big = use-size wd u (a .0) .0;
+            inside = omega (arith, le-ends (shape w) (p + useSize (shape w) u) bs);
+            tag = h .0 .1 ∙ sym walk;
             when-free = λ z. absurd (omega (arith, y));
             when-used = λ _. (record { use-is = u; allowed = a .0; size = refl; flag = sym k; headers = h .0 .2 }, record { rest = bs; reads = h .1; fills = f; allowed = a .1; apart = n .1; links = l });
           })
 
-  pub free-back : {m m′ : List ℕ} → t % 8 ≡ 0 → 32 ≤ s → wordAt 8 b (p + s - 8) ≡ t → d ≡ 0 → link ≡ p → wordAt 8 b (p + s - 16) ≡ prev → Walk b end (p + s) p 1 (wordAt 8 b (p + 8)) m m′ → Walk b end p prev d link m m′
+  pub free-back : {m m′ : List ℕ} → t % 8 ≡ 0 → 4 * w ≤ s → wordAt w b (p + s - w) ≡ t → d ≡ 0 → link ≡ p → wordAt w b (p + s - 2 * w) ≡ prev → Walk w b end (p + s) p 1 (wordAt w b (p + w)) m m′ → Walk w b end p prev d link m m′
   unfolding firstFree ends AllAllowed Allowed sizeOf Reads Apart freeItems
-  free-back a big tag alone linked back w =
-      let r = w .run in
+  free-back a big tag alone linked back walk =
+      let r = walk .run in
       record {
         run = record {
           rest = free s ∷ r .rest;
@@ -99,13 +92,13 @@ module _ {b : List ℕ} {end p prev d link : ℕ} (t s : ℕ) (et : t ≡ wordAt
           apart = (omega arith, r .apart);
           links = sym linked;
         };
-        adds = w .adds;
+        adds = walk .adds;
       }
 
-  pub used-back : {m m₁ m′ : List ℕ} → d ≤ 1 → wordAt 8 b (p + s - 8) ≡ t → UseMarked b p s (t % 8) m m₁ → Walk b end (p + s) prev 0 link m₁ m′ → Walk b end p prev d link m m′
+  pub used-back : {m m₁ m′ : List ℕ} → d ≤ 1 → wordAt w b (p + s - w) ≡ t → UseMarked w b p s (t % 8) m m₁ → Walk w b end (p + s) prev 0 link m₁ m′ → Walk w b end p prev d link m m′
   unfolding firstFree ends AllAllowed Allowed sizeOf Reads Apart freeItems
-  used-back h tag u w =
-      let r = w .run in
+  used-back h tag u walk =
+      let r = walk .run in
       let a = u .use-at in
       record {
         run = record {
@@ -116,59 +109,62 @@ module _ {b : List ℕ} {end p prev d link : ℕ} (t s : ℕ) (et : t ≡ wordAt
           apart = (omega arith, r .apart);
           links = rw (a .size) (r .links);
         };
-        adds = rw (a .size) (adds-append (freeIn p (a .use-is)) (freeItems (p + s) (r .rest)) (u .adds) (w .adds));
+        adds = rw (a .size) (adds-append wd (freeIn w p (a .use-is)) (freeItems w (p + s) (r .rest)) (u .adds) (walk .adds));
       }
 
 -- the walk stands at p: what is ahead, what it makes of the whole, and the marks so far
-pub record BlocksInv (b : List ℕ) (end : ℕ) (m₀ m : List ℕ) (n p prev d link : ℕ) : Type 0 where
-  pub ahead : Run b end 312 0 0 (wordAt 8 b 24) → Run b end p prev d link
-  pub back : (m′ : List ℕ) → Walk b end p prev d link m m′ → Walk b end 312 0 0 (wordAt 8 b 24) m₀ m′
-  pub low : 312 ≤ p
+pub record BlocksInv (w : ℕ) (b : List ℕ) (end : ℕ) (m₀ m : List ℕ) (n p prev d link : ℕ) : Type 0 where
+  pub width : Width w
+  pub ahead : Run w b end (start (shape w)) 0 0 (wordAt w b (8 + 2 * w)) → Run w b end p prev d link
+  pub back : (m′ : List ℕ) → Walk w b end p prev d link m m′ → Walk w b end (start (shape w)) 0 0 (wordAt w b (8 + 2 * w)) m₀ m′
+  pub low : start (shape w) ≤ p
   pub inside : p ≤ end
   pub eight : p % 8 ≡ 0
   pub flag : d ≤ 1
-  pub marking : Marking m n p
-  pub map : end ≤ 512 * length m
+  pub marking : Marking w m n p
+  pub map : end ≤ w * (64 * length m)
   pub size : length m ≡ length m₀
 
-pub blocks-start : {b m : List ℕ} {end : ℕ} (w : ℕ) → w ≡ wordAt 8 b 24 → Sizes b m end → Clear m 0 → BlocksInv b end m m 1 312 0 0 w
-blocks-start w e z k =
-    rw e (record {
+pub blocks-start : {w : ℕ} {b m : List ℕ} {end : ℕ} (link p : ℕ) → link ≡ wordAt w b (8 + 2 * w) → Sizes w b m end → Clear w m 0 → p ≡ start (shape w) → BlocksInv w b end m m 1 p 0 0 link
+blocks-start {w} link p e z k f =
+    rw (e, f) (record {
+      width = z .width;
       ahead = λ r. r;
       back = λ m′ r. r;
       low = omega arith;
       inside = omega (arith, z .low);
-      eight = refl;
+      eight = start-eight (z .width);
       flag = omega arith;
       marking = record { marked = marked-none k; clear = record { from = λ j h. k .from j (omega arith) }; few = omega arith };
       map = z .map;
       size = refl;
     })
 
-module _ {b : List ℕ} {end : ℕ} {m₀ m : List ℕ} {n p prev d link : ℕ} (i : BlocksInv b end m₀ m n p prev d link) where
+module _ {w : ℕ} {b : List ℕ} {end : ℕ} {m₀ m : List ℕ} {n p prev d link : ℕ} (i : BlocksInv w b end m₀ m n p prev d link) where
   -- at the end
-  pub blocks-yes : end ≤ p → link ≡ 0 → BlocksTold b end m₀ n m
+  pub blocks-yes : end ≤ p → link ≡ 0 → BlocksTold w b end m₀ n m
   blocks-yes h e =
       record {
         is-no = λ z. absurd (marked-pos (i .marking .marked) z);
-        is-yes = λ _. i .back m (stop-out m (omega (arith, i .inside)) e);
+        is-yes = λ _. i .back m (stop-out (i .width) m (omega (arith, i .inside)) e);
         marked = λ _. i .marking .marked;
       }
 
-  pub blocks-open : (m′ : List ℕ) → end ≤ p → (link ≡ 0 → ⊥) → BlocksTold b end m₀ 0 m′
-  blocks-open m′ h e = record { is-no = λ _ r. e (stop-in (omega (arith, i .inside)) (i .ahead r)); is-yes = λ z. absurd (z refl); marked = λ z. absurd (z refl) }
+  pub blocks-open : (m′ : List ℕ) → end ≤ p → (link ≡ 0 → ⊥) → BlocksTold w b end m₀ 0 m′
+  blocks-open m′ h e = record { is-no = λ _ r. e (stop-in (i .width) (omega (arith, i .inside)) (i .ahead r)); is-yes = λ z. absurd (z refl); marked = λ z. absurd (z refl) }
 
-  module _ (h : p < end) (t s : ℕ) (et : t ≡ wordAt 8 b p) (es : s ≡ t - t % 8) where
+  module _ (h : p < end) (t s : ℕ) (et : t ≡ wordAt w b p) (es : s ≡ t - t % 8) where
     -- a test that failed
-    pub blocks-no : (m′ : List ℕ) → (Passed b end p prev d link t s → ⊥) → BlocksTold b end m₀ 0 m′
-    blocks-no m′ f = record { is-no = λ _ r. f (passed t s et es h (i .ahead r)); is-yes = λ z. absurd (z refl); marked = λ z. absurd (z refl) }
+    pub blocks-no : (m′ : List ℕ) → (Passed w b end p prev d link t s → ⊥) → BlocksTold w b end m₀ 0 m′
+    blocks-no m′ f = record { is-no = λ _ r. f (passed (i .width) t s et es h (i .ahead r)); is-yes = λ z. absurd (z refl); marked = λ z. absurd (z refl) }
 
-    module _ (big : 32 ≤ s) (within : p + s ≤ end) (tag : wordAt 8 b (p + s - 8) ≡ t) where
-      pub blocks-free : t % 8 ≡ 0 → d ≡ 0 → link ≡ p → wordAt 8 b (p + s - 16) ≡ prev → (x : ℕ) → x ≡ wordAt 8 b (p + 8) → BlocksInv b end m₀ m n (p + s) p 1 x
+    module _ (big : 4 * w ≤ s) (within : p + s ≤ end) (tag : wordAt w b (p + s - w) ≡ t) where
+      pub blocks-free : t % 8 ≡ 0 → d ≡ 0 → link ≡ p → wordAt w b (p + s - 2 * w) ≡ prev → (x : ℕ) → x ≡ wordAt w b (p + w) → BlocksInv w b end m₀ m n (p + s) p 1 x
       blocks-free a alone linked prior x ex =
           rw ex (record {
-            ahead = λ r. passed t s et es h (i .ahead r) .when-free a .3;
-            back = λ m′ w. i .back m′ (free-back t s et es a big tag alone linked prior w);
+            width = i .width;
+            ahead = λ r. passed (i .width) t s et es h (i .ahead r) .when-free a .3;
+            back = λ m′ walk. i .back m′ (free-back (i .width) t s et es a big tag alone linked prior walk);
             low = omega (arith, i .low);
             inside = within;
             eight = omega (arith, i .eight);
@@ -178,19 +174,20 @@ module _ {b : List ℕ} {end : ℕ} {m₀ m : List ℕ} {n p prev d link : ℕ} 
             size = i .size;
           })
 
-      pub blocks-used : (t % 8 ≡ 0 → ⊥) → (m₁ : List ℕ) (r : ℕ) → length m₁ ≡ length m → UseTold b m p s (t % 8) r m₁ → (r ≡ 0 → ⊥) → BlocksInv b end m₀ m₁ r (p + s) prev 0 link
+      pub blocks-used : (t % 8 ≡ 0 → ⊥) → (m₁ : List ℕ) (r : ℕ) → length m₁ ≡ length m → UseTold w b m p s (t % 8) r m₁ → (r ≡ 0 → ⊥) → BlocksInv w b end m₀ m₁ r (p + s) prev 0 link
       blocks-used a m₁ r el u z =
           record {
-            ahead = λ k. passed t s et es h (i .ahead k) .when-used a .1;
-            back = λ m′ w. i .back m′ (used-back t s et es (i .flag) tag (u .is-yes z) w);
+            width = i .width;
+            ahead = λ k. passed (i .width) t s et es h (i .ahead k) .when-used a .1;
+            back = λ m′ walk. i .back m′ (used-back (i .width) t s et es (i .flag) tag (u .is-yes z) walk);
             low = omega (arith, i .low);
             inside = within;
             eight = omega (arith, i .eight);
             flag = omega arith;
             marking = u .marking z;
-            map = omega (arith, i .map);
+            map = rw el (i .map);
             size = el ∙ i .size;
           }
 
-      pub blocks-wrong : (t % 8 ≡ 0 → ⊥) → (m₁ : List ℕ) (r : ℕ) → UseTold b m p s (t % 8) r m₁ → r ≡ 0 → (m′ : List ℕ) → BlocksTold b end m₀ 0 m′
+      pub blocks-wrong : (t % 8 ≡ 0 → ⊥) → (m₁ : List ℕ) (r : ℕ) → UseTold w b m p s (t % 8) r m₁ → r ≡ 0 → (m′ : List ℕ) → BlocksTold w b end m₀ 0 m′
       blocks-wrong a m₁ r u z m′ = blocks-no m′ (λ k. u .is-no z (k .when-used a .0))

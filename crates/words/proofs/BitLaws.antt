@@ -1,18 +1,17 @@
 -- Laws of maps of bits.
-use Prim.Native.Nat.{ℕ, zero, suc, _+_, _-_, _*_, _/_, _%_, _^_, _<_, _≤_}
+use Prim.Native.Nat.{ℕ, zero, suc, _+_, _*_, _/_, _%_, _^_, _<_}
 use mathlib.Core.Path.{_≡_, refl, sym, ap, _∙_}
 use mathlib.Core.List.{List}
 use native.Mathlib.Omega.{arith}
 use lib.ListN.{length, getD, set, replicate}
 use lib.Seq.{getD-set-same, getD-set-other}
-use lib.Bits.{bitXor, differ, xor-step, xor-zero-r}
 use lib.Pow.{shr-shr, shl-exact}
 use lib.Dec.{eqb}
 use borrow.Author.Tests.{eqb-true, eqb-false}
 use mathlib.Core.Bool.{Bool, true, false}
 use native.Mathlib.Nat
 use native.Mathlib.Numerals.{one-add}
-use Rattle.words.specs.Bits.{bitOf, bitAt, marked, unmarked}
+use Rattle.words.specs.Bits.{bitOf, bitAt, marked}
 
 -- the same bit, by steps: what the laws below go by
 bits : ℕ → ℕ → ℕ
@@ -49,43 +48,6 @@ add-fits b zero x e l f = absurd (omega arith)
 add-fits zero (suc w) x e l f = omega arith
 add-fits (suc b) (suc w) x e l f = omega (arith, add-fits b w (x / 2) e (omega arith) (omega arith))
 
--- a number whose bit b is set is at least 2 ^ b, and without it has that bit clear
-sub-fits : (b x : ℕ) → bits x b ≡ 1 → 2 ^ b ≤ x
-unfolding bits
-sub-fits zero x e = omega arith
-sub-fits (suc b) x e = omega (arith, sub-fits b (x / 2) e)
-
-sub-same : (b x : ℕ) → bits x b ≡ 1 → bits (x - 2 ^ b) b ≡ 0
-unfolding bits
-sub-same zero x e = omega arith
-sub-same (suc b) x e =
-    let l : 2 ^ b ≤ x / 2 = sub-fits b (x / 2) e in
-    let d : (x - 2 ^ suc b) / 2 ≡ x / 2 - 2 ^ b = omega arith in
-    rw d (sub-same b (x / 2) e)
-
-sub-other : (b j x : ℕ) → bits x b ≡ 1 → (j ≡ b → ⊥) → bits (x - 2 ^ b) j ≡ bits x j
-sub-other b j x e n =
-    let l : 2 ^ b ≤ x = sub-fits b x e in
-    let k : x - 2 ^ b + 2 ^ b ≡ x = omega arith in
-    sym (add-other b j (x - 2 ^ b) (sub-same b x e) n) ∙ ap (λ (y : ℕ). bits y j) k
-
--- a set bit is cleared by `^`
-xor-clears : (b x : ℕ) → bits x b ≡ 1 → bitXor x (2 ^ b) ≡ x - 2 ^ b
-unfolding bits
-xor-clears zero x e = xor-step x 1 ∙ rw (xor-zero-r (x / 2), e) (omega arith)
-xor-clears (suc b) x e =
-    let d : 2 ^ suc b / 2 ≡ 2 ^ b = omega arith in
-    let z : 2 ^ suc b % 2 ≡ 0 = omega arith in
-    xor-step x (2 ^ suc b) ∙ rw (d, z, xor-clears b (x / 2) e) (omega (arith, sub-fits b (x / 2) e, differ-zero (x % 2)))
-  where
-    differ-zero : (n : ℕ) → differ n 0 ≡ n
-    differ-zero zero = refl
-    differ-zero (suc n) = refl
-
-pub xor-unmarks : (m : List ℕ) (i : ℕ) → bitAt m i ≡ 1 → bitXor (getD m (i / 64) 0) (2 ^ (i % 64)) ≡ getD m (i / 64) 0 - 2 ^ (i % 64)
-unfolding bitAt
-xor-unmarks m i e = xor-clears (i % 64) _ (bits-is (i % 64) _ ∙ e)
-
 -- what a shift of 1 gives
 pub one-shifted : (b : ℕ) → b < 64 → (1 * 2 ^ b) % 18446744073709551616 ≡ 2 ^ b
 one-shifted b l = shl-exact 1 b 64 (omega arith) (omega arith) ∙ omega arith
@@ -112,24 +74,10 @@ module _ (m : List ℕ) (i : ℕ) (within : i / 64 < length m) where
   unfolding bitAt marked
   marked-other e = stored _ (λ b. add-other (i % 64) b _ (bits-is (i % 64) _ ∙ e))
 
-  pub unmarked-same : bitAt m i ≡ 1 → bitAt (unmarked m i) i ≡ 0
-  unfolding bitAt unmarked
-  unmarked-same e =
-      rw (getD-set-same m (i / 64) (getD m (i / 64) 0 - 2 ^ (i % 64)) 0)
-      (sym (bits-is (i % 64) _) ∙ sub-same (i % 64) _ (bits-is (i % 64) _ ∙ e))
-
-  pub unmarked-other : bitAt m i ≡ 1 → (j : ℕ) → (j ≡ i → ⊥) → bitAt (unmarked m i) j ≡ bitAt m j
-  unfolding bitAt unmarked
-  unmarked-other e = stored _ (λ b. sub-other (i % 64) b _ (bits-is (i % 64) _ ∙ e))
-
--- what the code asks: the sum fits, the difference does not go below 0
+-- what the code asks: the sum fits
 pub mark-fits : (m : List ℕ) (i : ℕ) → bitAt m i ≡ 0 → getD m (i / 64) 0 < 2 ^ 64 → getD m (i / 64) 0 + 2 ^ (i % 64) < 2 ^ 64
 unfolding bitAt
 mark-fits m i e f = add-fits (i % 64) 64 _ (bits-is (i % 64) _ ∙ e) (omega arith) f
-
-pub unmark-fits : (m : List ℕ) (i : ℕ) → bitAt m i ≡ 1 → 2 ^ (i % 64) ≤ getD m (i / 64) 0
-unfolding bitAt
-unmark-fits m i e = sub-fits (i % 64) _ (bits-is (i % 64) _ ∙ e)
 
 -- every bit of a map of zeros is clear
 pub zeros-clear : (n i : ℕ) → bitAt (replicate n 0) i ≡ 0

@@ -1,3 +1,4 @@
+pub mod WidthLaws
 pub mod WordLaws
 pub mod BitLaws
 pub mod ByteLaws

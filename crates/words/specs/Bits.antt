@@ -1,5 +1,5 @@
 -- A map of bits in 64-bit words: bit i is bit i % 64, the lowest first, of word i / 64.
-use Prim.Native.Nat.{ℕ, _+_, _-_, _/_, _%_, _^_}
+use Prim.Native.Nat.{ℕ, _+_, _/_, _%_, _^_}
 use mathlib.Core.List.{List}
 use lib.ListN.{getD, set}
 
@@ -11,9 +11,6 @@ bitOf x k = x / 2 ^ k % 2
 unfoldable pub bitAt : List ℕ → ℕ → ℕ
 bitAt m i = bitOf (getD m (i / 64) 0) (i % 64)
 
--- the map with bit i, that was clear, set; and with bit i, that was set, clear
+-- the map with bit i, that was clear, set
 unfoldable pub marked : List ℕ → ℕ → List ℕ
 marked m i = set m (i / 64) (getD m (i / 64) 0 + 2 ^ (i % 64))
-
-unfoldable pub unmarked : List ℕ → ℕ → List ℕ
-unmarked m i = set m (i / 64) (getD m (i / 64) 0 - 2 ^ (i % 64))

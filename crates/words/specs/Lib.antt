@@ -1,3 +1,4 @@
 pub mod Word
 pub mod Copy
 pub mod Bits
+pub mod Width

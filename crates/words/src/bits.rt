@@ -2,7 +2,7 @@
 ghost use mathlib.Core.Path.{_≡_};
 ghost use Prim.Native.Nat.{_/_, _<_};
 ghost use lib.ListN.{length};
-ghost use Rattle.words.specs.Bits.{bitAt, marked, unmarked};
+ghost use Rattle.words.specs.Bits.{bitAt, marked};
 
 // Bit i.
 pub fn test(m: &[u64], i: usize) -> u64
@@ -22,14 +22,4 @@ pub fn mark(m: &mut [u64], i: usize)
     let w = i / 64;
     let k = i % 64;
     m[w] = m[w] + (1u64 << k);
-}
-
-// Clears bit i, which is set.
-pub fn unmark(m: &mut [u64], i: usize)
-    requires { ⌜ (i / 64 < length (now m)) × (bitAt (now m) i ≡ 1) ⌝ }
-    ensures { λ _. ⌜ now (m .exit) ≡ unmarked (now (m .entry)) i ⌝ }
-{
-    let w = i / 64;
-    let k = i % 64;
-    m[w] = m[w] ^ (1u64 << k);
 }

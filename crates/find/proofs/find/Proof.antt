@@ -8,55 +8,59 @@ use Rattle.find.proofs.find.Tie as tie
 use Rattle.find.proofs.find.Reads as reads
 use Rattle.find.proofs.find.Lts as lts
 use Rattle.find.proofs.in_block.Reads as in-block-reads
+use Rattle.model.proofs.start.Reads as start-reads
 use Rattle.words.proofs.word.Reads as word-reads
 
 abbrev Inv-loop : tie.InvT-loop
-Inv-loop h a p₀ prev₀ left₀ p prev left = Looking h a p prev left
+Inv-loop w h a «data» p₀ prev₀ left₀ p prev left = Looking w h (a .0) (p .0) (prev .0) left
 
 abbrev μ-loop : tie.MeasureT-loop
-μ-loop h a p₀ prev₀ left₀ p prev left = a - p
+μ-loop w h a «data» p₀ prev₀ left₀ p prev left = a .0 - p .0
+
+start-requires : tie.Need-start-requires Inv-loop μ-loop
+start-requires c κs = search needs
 
 returns : tie.Need-returns Inv-loop μ-loop
-returns c = λ L h. found-before L _ (omega arith)
+returns c = λ L h. found-before (c .before .before .before .before .pre .0) L _ (omega arith)
 
 mul-if2 : tie.Need-mul-if2 Inv-loop μ-loop
 mul-if2 c = search needs
 
 returns-2 : tie.Need-returns-2 Inv-loop μ-loop
-returns-2 c = λ L h. found-behind _ L _ h (omega arith)
+returns-2 c = λ L h. found-behind (c .before .before .before .before .before .before .pre .0) _ L _ h (omega arith)
 
 loop-holds : tie.Need-loop-holds Inv-loop μ-loop
-loop-holds c = look-start _ _ (c .before .before .before .pre) (omega arith) (omega arith)
+loop-holds c = look-start (c .before .before .before .before .before .before .pre .0) _ _ _ (c .before .before .before .before .before .before .pre .1) (c .before .before .before .before .start .ensures) (omega arith) (omega arith)
 
 word-requires : tie.Need-word-requires Inv-loop μ-loop
-word-requires c κs = omega (arith, look-inside (c .before .loop .inv) (omega arith) _ refl)
+word-requires c κs = omega (arith, look-inside (c .before .before .before .loop .inv) (omega arith) _ refl)
 
-mul-next : tie.Need-mul-next Inv-loop μ-loop
-mul-next c = search needs
+mul-if5 : tie.Need-mul-if5 Inv-loop μ-loop
+mul-if5 c = search needs
 
-add-next : tie.Need-add-next Inv-loop μ-loop
-add-next c = omega (arith, look-inside (c .before .before .loop .inv) (omega arith) _ (c .word .ensures))
+add-if5 : tie.Need-add-if5 Inv-loop μ-loop
+add-if5 c = omega (arith, look-inside (c .before .before .before .before .before .loop .inv) (omega arith) _ (c .before .word .ensures))
 
 in-block-requires : tie.Need-in-block-requires Inv-loop μ-loop
-in-block-requires c κs = look-on (c .before .before .before .loop .inv) _ (c .before .word .ensures) (omega arith)
+in-block-requires c κs = look-on (c .before .before .before .before .before .before .before .before .loop .inv) _ (c .before .before .before .before .word .ensures) (omega arith)
 
 returns-3 : tie.Need-returns-3 Inv-loop μ-loop
 returns-3 c = c .in-block .ensures
 
 loop-less : tie.Need-loop-less Inv-loop μ-loop
-loop-less c = omega (arith, look-inside (c .before .before .before .before .loop .inv) (omega arith) _ (c .before .before .word .ensures))
+loop-less c = omega (arith, look-inside (c .before .before .before .before .before .before .before .before .before .loop .inv) (omega arith) _ (c .before .before .before .before .before .word .ensures))
 
 loop-again : tie.Need-loop-again Inv-loop μ-loop
-loop-again c = look-past-free (c .before .before .before .before .loop .inv) (omega arith) _ (c .before .before .word .ensures) (omega arith) (c .if4 .taken)
+loop-again c = look-past-free (c .before .before .before .before .before .before .before .before .before .loop .inv) (omega arith) _ (c .before .before .before .before .before .word .ensures) (omega arith) (c .if5 .taken)
 
 loop-less-2 : tie.Need-loop-less-2 Inv-loop μ-loop
-loop-less-2 c = omega (arith, look-inside (c .before .before .before .before .loop .inv) (omega arith) _ (c .before .before .word .ensures))
+loop-less-2 c = omega (arith, look-inside (c .before .before .before .before .before .before .before .before .before .loop .inv) (omega arith) _ (c .before .before .before .before .before .word .ensures))
 
 loop-again-2 : tie.Need-loop-again-2 Inv-loop μ-loop
-loop-again-2 c = look-past-used (c .before .before .before .before .loop .inv) (omega arith) _ (c .before .before .word .ensures) (omega arith) (c .if4 .left)
+loop-again-2 c = look-past-used (c .before .before .before .before .before .before .before .before .before .loop .inv) (omega arith) _ (c .before .before .before .before .before .word .ensures) (omega arith) (c .if5 .left)
 
 returns-4 : tie.Need-returns-4 Inv-loop μ-loop
-returns-4 c = look-end (c .before .loop .inv) (omega arith)
+returns-4 c = look-end (c .before .before .before .loop .inv) (omega arith)
 
 pub find-spec : {M : Type 1} → statement M
 find-spec =
@@ -64,13 +68,14 @@ find-spec =
     (tie.spec
     Inv-loop
     μ-loop
+    start-requires
     returns
     mul-if2
     returns-2
     loop-holds
     word-requires
-    mul-next
-    add-next
+    mul-if5
+    add-if5
     in-block-requires
     returns-3
     loop-less

@@ -1,4 +1,4 @@
-use Prim.Native.Nat.{_-_}
+use Prim.Native.Nat.{_-_, _*_}
 use native.Mathlib.Omega.{arith}
 use borrow.Author.Needs.{needs}
 use Rattle.fresh.proofs.FreshWords.{Clearing, clear-start, clear-turn, clear-done}
@@ -9,19 +9,28 @@ use Rattle.fresh.proofs.write_heads.Lts as lts
 use Rattle.words.proofs.put_word.Reads as put-word-reads
 
 abbrev Inv-loop : tie.InvT-loop
-Inv-loop h₀ c₀ h c = Clearing h₀ h c
+Inv-loop w h₀ c₀ h c = Clearing w h₀ h c
 
 abbrev μ-loop : tie.MeasureT-loop
-μ-loop h₀ c₀ h c = 32 - c
+μ-loop w h₀ c₀ h c = 4 * w - c
 
 loop-holds : tie.Need-loop-holds Inv-loop μ-loop
-loop-holds c = clear-start _ (c .before .pre)
+loop-holds c = clear-start _ (c .before .pre .1)
+
+mul-loop : tie.Need-mul-loop Inv-loop μ-loop
+mul-loop c = search needs
 
 mul-put-word : tie.Need-mul-put-word Inv-loop μ-loop
 mul-put-word c = search needs
 
 add-put-word : tie.Need-add-put-word Inv-loop μ-loop
 add-put-word c = search needs
+
+mul-put-word-2 : tie.Need-mul-put-word-2 Inv-loop μ-loop
+mul-put-word-2 c = search needs
+
+add-put-word-2 : tie.Need-add-put-word-2 Inv-loop μ-loop
+add-put-word-2 c = search needs
 
 put-word-requires : tie.Need-put-word-requires Inv-loop μ-loop
 put-word-requires c κs = search needs
@@ -48,8 +57,11 @@ write-heads-spec =
     Inv-loop
     μ-loop
     loop-holds
+    mul-loop
     mul-put-word
     add-put-word
+    mul-put-word-2
+    add-put-word-2
     put-word-requires
     add-c
     loop-less

@@ -10,54 +10,42 @@ use Rattle.engine.proofs.allocate.allocate.Reads as allocate-reads
 use Rattle.heap.proofs.examine.Reads as examine-reads
 use Rattle.heap.proofs.granted_or_not.Reads as granted-or-not-reads
 
--- src/lib.rt:121:9
 examine-requires : tie.Need-examine-requires
 examine-requires c κs = search needs
 
--- src/lib.rt:122:27
 enum-known-v : tie.Need-enum-known-v
 enum-known-v c = search needs
 
--- src/lib.rt:123:9
 same-length : tie.Need-same-length
 same-length c = search needs
 
--- src/lib.rt:123:9
 returns : tie.Need-returns
 returns c = refuses _ _ _ _ _ (c .before .before .before .examine .ensures) (c .before .v .given .1)
 
 enum-told : tie.Need-enum-told
 enum-told c = search needs
 
--- src/lib.rt:126:9
 same-length-2 : tie.Need-same-length-2
 same-length-2 c = search needs
 
--- src/lib.rt:126:9
 returns-2 : tie.Need-returns-2
 returns-2 c = decides _ _ _ _ (c .before .before .before .examine .ensures) (c .before .enum-told .given .1) _ (λ L h. too-small _ _ _ (c .if1 .taken))
 
--- src/lib.rt:129:9
 same-length-3 : tie.Need-same-length-3
 same-length-3 c = search needs
 
--- src/lib.rt:129:9
 returns-3 : tie.Need-returns-3
 returns-3 c = decides _ _ _ _ (c .before .before .before .before .examine .ensures) (c .before .before .enum-told .given .1) _ (λ L h. too-large (c .before .before .before .before .before .before .before .args .n) _ _ (omega arith))
 
--- src/lib.rt:131:9
 allocate-requires : tie.Need-allocate-requires
 allocate-requires c κs = (ready _ _ (c .before .before .before .before .before .examine .ensures) (c .before .before .before .enum-told .given .1), record { some-byte = omega arith; most = omega arith })
 
--- src/lib.rt:132:5
 granted-or-not-requires : tie.Need-granted-or-not-requires
 granted-or-not-requires c κs = search needs
 
--- src/lib.rt:118:1
 same-length-4 : tie.Need-same-length-4
 same-length-4 c = search needs
 
--- src/lib.rt:118:1
 returns-4 : tie.Need-returns-4
 returns-4 c = decides _ _ _ _ (c .before .before .before .before .before .before .before .before .before .examine .ensures) (c .before .before .before .before .before .before .before .enum-told .given .1) _ (allocates _ _ _ _ _ (omega arith) (omega arith) (c .before .before .before .allocate .ensures) (c .granted-or-not .ensures))
 

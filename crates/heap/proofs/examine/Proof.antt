@@ -1,3 +1,5 @@
+use mathlib.Core.Path.{sym, _∙_}
+use Rattle.model.proofs.Sizes.{eight}
 use borrow.Author.Tests.{not-true, not-false}
 use native.Mathlib.Omega.{arith}
 use Rattle.sound.proofs.Tellings.{clash}
@@ -8,6 +10,7 @@ use Rattle.heap.proofs.examine.Tie as tie
 use Rattle.heap.proofs.examine.Reads as reads
 use Rattle.heap.proofs.examine.Lts as lts
 use Rattle.heap.proofs.is_lent.Reads as is-lent-reads
+use Rattle.model.proofs.magic.Reads as magic-reads
 use Rattle.sound.proofs.is_sound.Reads as is-sound-reads
 use Rattle.words.proofs.word.Reads as word-reads
 
@@ -20,17 +23,20 @@ returns c = examined-length _ (λ l. clash _ (not-true _ (c .if1 .taken)) (c .be
 word-requires : tie.Need-word-requires
 word-requires c κs = omega (arith, c .before .is-lent .ensures .yes-is (not-false _ (c .if1 .left)))
 
+magic-requires : tie.Need-magic-requires
+magic-requires c κs = search needs
+
 returns-2 : tie.Need-returns-2
-returns-2 c = examined-word _ (c .before .before .before .is-lent .ensures .yes-is (not-false _ (c .before .before .if1 .left))) _ (c .before .word .ensures) (c .if2 .taken)
+returns-2 c = examined-word _ (c .before .before .before .before .is-lent .ensures .yes-is (not-false _ (c .before .before .before .if1 .left))) _ (c .before .before .word .ensures) (λ e. c .if2 .taken (e ∙ sym (c .before .magic .ensures)))
 
 is-sound-requires : tie.Need-is-sound-requires
-is-sound-requires c κs = c .before .before .before .is-lent .ensures .yes-is (not-false _ (c .before .before .if1 .left))
+is-sound-requires c κs = (eight, c .before .before .before .before .is-lent .ensures .yes-is (not-false _ (c .before .before .before .if1 .left)) .0, c .before .before .before .before .is-lent .ensures .yes-is (not-false _ (c .before .before .before .if1 .left)) .1)
 
 returns-3 : tie.Need-returns-3
-returns-3 c = examined-unsound _ (c .before .before .before .before .before .is-lent .ensures .yes-is (not-false _ (c .before .before .before .before .if1 .left))) _ (c .before .before .before .word .ensures) (c .before .before .if2 .left) _ (c .before .is-sound .ensures) (not-true _ (c .if3 .taken))
+returns-3 c = examined-unsound _ (c .before .before .before .before .before .before .is-lent .ensures .yes-is (not-false _ (c .before .before .before .before .before .if1 .left))) _ (c .before .before .before .before .word .ensures) (c .before .before .if2 .left ∙ c .before .before .before .magic .ensures) _ (c .before .is-sound .ensures) (not-true _ (c .if3 .taken))
 
 returns-4 : tie.Need-returns-4
-returns-4 c = examined-fine _ (c .before .before .before .before .before .is-lent .ensures .yes-is (not-false _ (c .before .before .before .before .if1 .left))) _ (c .before .is-sound .ensures) (not-false _ (c .if3 .left))
+returns-4 c = examined-fine _ (c .before .before .before .before .before .before .is-lent .ensures .yes-is (not-false _ (c .before .before .before .before .before .if1 .left))) _ (c .before .is-sound .ensures) (not-false _ (c .if3 .left))
 
 pub examine-spec : {M : Type 1} → statement M
 examine-spec =
@@ -39,6 +45,7 @@ examine-spec =
     is-lent-requires
     returns
     word-requires
+    magic-requires
     returns-2
     is-sound-requires
     returns-3

@@ -1,3 +1,5 @@
+use mathlib.Core.Path.{sym, _∙_}
+use Rattle.model.proofs.Sizes.{eight}
 use borrow.Author.Tests.{not-true, not-false}
 use native.Mathlib.Omega.{arith}
 use Rattle.sound.proofs.Tellings.{clash}
@@ -9,6 +11,7 @@ use Rattle.heap.proofs.initialise.Reads as reads
 use Rattle.heap.proofs.initialise.Lts as lts
 use Rattle.fresh.proofs.lay.Reads as lay-reads
 use Rattle.heap.proofs.is_lent.Reads as is-lent-reads
+use Rattle.model.proofs.magic.Reads as magic-reads
 use Rattle.words.proofs.word.Reads as word-reads
 
 is-lent-requires : tie.Need-is-lent-requires
@@ -23,20 +26,23 @@ returns c = opens-not-lent _ (λ l. clash _ (not-true _ (c .if1 .taken)) (c .bef
 word-requires : tie.Need-word-requires
 word-requires c κs = omega (arith, c .before .before .is-lent .ensures .yes-is (not-false _ (c .before .if1 .left)))
 
+magic-requires : tie.Need-magic-requires
+magic-requires c κs = search needs
+
 same-length-2 : tie.Need-same-length-2
 same-length-2 c = search needs
 
 returns-2 : tie.Need-returns-2
-returns-2 c = opens-again _ (c .before .before .before .before .is-lent .ensures .yes-is (not-false _ (c .before .before .before .if1 .left))) _ (c .before .word .ensures) (c .if2 .taken)
+returns-2 c = opens-again _ (c .before .before .before .before .before .is-lent .ensures .yes-is (not-false _ (c .before .before .before .before .if1 .left))) _ (c .before .before .word .ensures) (c .if2 .taken ∙ c .before .magic .ensures)
 
 lay-requires : tie.Need-lay-requires
-lay-requires c κs = c .before .before .before .before .before .is-lent .ensures .yes-is (not-false _ (c .before .before .before .before .if1 .left))
+lay-requires c κs = (eight, c .before .before .before .before .before .before .is-lent .ensures .yes-is (not-false _ (c .before .before .before .before .before .if1 .left)))
 
 same-length-3 : tie.Need-same-length-3
 same-length-3 c = search needs
 
 returns-3 : tie.Need-returns-3
-returns-3 c = opens-fresh _ (c .before .before .before .before .before .before .before .before .is-lent .ensures .yes-is (not-false _ (c .before .before .before .before .before .before .before .if1 .left))) _ (c .before .before .before .before .before .word .ensures) (c .before .before .before .before .if2 .left) _ (c .before .before .lay .ensures)
+returns-3 c = opens-fresh _ (c .before .before .before .before .before .before .before .before .before .is-lent .ensures .yes-is (not-false _ (c .before .before .before .before .before .before .before .before .if1 .left))) _ (c .before .before .before .before .before .before .word .ensures) (λ e. c .before .before .before .before .if2 .left (e ∙ sym (c .before .before .before .before .before .magic .ensures))) _ (c .before .before .lay .ensures)
 
 pub initialise-spec : {M : Type 1} → statement M
 initialise-spec =
@@ -46,6 +52,7 @@ initialise-spec =
     same-length
     returns
     word-requires
+    magic-requires
     same-length-2
     returns-2
     lay-requires

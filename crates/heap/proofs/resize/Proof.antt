@@ -7,9 +7,9 @@ use Rattle.heap.proofs.resize.Statement.{statement}
 use Rattle.heap.proofs.resize.Tie as tie
 use Rattle.heap.proofs.resize.Reads as reads
 use Rattle.heap.proofs.resize.Lts as lts
-use Rattle.resizing.proofs.resize.resize.Reads as resize-reads
 use Rattle.heap.proofs.examine.Reads as examine-reads
 use Rattle.heap.proofs.resized_or_not.Reads as resized-or-not-reads
+use Rattle.resizing.proofs.resize.resize.Reads as resize-reads
 
 examine-requires : tie.Need-examine-requires
 examine-requires c κs = search needs

@@ -4,27 +4,21 @@ use Rattle.heap.proofs.resized_or_not.Tie as tie
 use Rattle.heap.proofs.resized_or_not.Reads as reads
 use Rattle.heap.proofs.resized_or_not.Lts as lts
 
--- src/lib.rt:158:29
 enum-known-t : tie.Need-enum-known-t
 enum-known-t c = search needs
 
--- src/lib.rt:159:53
 enum-told : tie.Need-enum-told
 enum-told c = search needs
 
--- src/lib.rt:160:52
 enum-told-2 : tie.Need-enum-told-2
 enum-told-2 c = search needs
 
--- src/lib.rt:154:1
 returns : tie.Need-returns
 returns c = cc
 
--- src/lib.rt:154:1
 returns-2 : tie.Need-returns-2
 returns-2 c = cc
 
--- src/lib.rt:154:1
 returns-3 : tie.Need-returns-3
 returns-3 c = cc
 

@@ -19,6 +19,9 @@ put-word-requires-2 c κs = search needs
 add-put-word-2 : tie.Need-add-put-word-2
 add-put-word-2 c = search needs
 
+mul-put-word : tie.Need-mul-put-word
+mul-put-word c = search needs
+
 sub-put-word : tie.Need-sub-put-word
 sub-put-word c = search needs
 
@@ -49,6 +52,7 @@ put-free-spec =
     add-put-word
     put-word-requires-2
     add-put-word-2
+    mul-put-word
     sub-put-word
     put-word-requires-3
     add-put-word-3

@@ -13,7 +13,7 @@ same-length : tie.Need-same-length
 same-length c = search needs
 
 returns : tie.Need-returns
-returns c = rw (ne-eqb (c .before .before .before .before .before .before .args .at) 0 (c .before .before .before .before .if1 .taken)) (c .before .before .put-word .ensures)
+returns c = rw (ne-eqb (c .before .before .before .before .before .before .before .args .at .0) 0 (c .before .before .before .before .if1 .taken)) (c .before .before .put-word .ensures)
 
 returns-2 : tie.Need-returns-2
 returns-2 c = simp (eq-eqb _ _ (c .if1 .left))

@@ -34,7 +34,7 @@ same-length c = search needs
 
 returns : tie.Need-returns
 unfolding linkedBytes draw
-returns c = cc
+returns c = rw (c .before .before .put-if .ensures, c .before .before .before .before .before .before .put-free .ensures, c .before .before .before .before .before .before .before .before .before .before .before .before .put-word .ensures, c .before .before .before .before .before .before .before .before .before .before .before .before .before .before .back-at .ensures, c .before .before .before .before .before .before .before .before .before .before .before .before .before .before .before .before .link-at .ensures)
 
 pub put-linked-spec : {M : Type 1} → statement M
 put-linked-spec =

@@ -1,3 +1,5 @@
+use Rattle.sound.proofs.Places.{read-at}
+use Prim.Native.Nat.{_*_}
 use Rattle.sound.proofs.Walks.{BlocksInv, blocks-start, blocks-no, blocks-free, blocks-used, blocks-wrong, blocks-open, blocks-yes}
 use Rattle.sound.proofs.Tellings.{clash}
 use Rattle.words.specs.Word.{wordAt}
@@ -8,18 +10,32 @@ use native.Mathlib.Omega.{arith}
 use borrow.Author.Needs.{needs}
 use Rattle.sound.proofs.mark_blocks.Statement.{statement}
 use Rattle.sound.proofs.mark_blocks.Tie as tie
+use Rattle.sound.proofs.mark_blocks.Reads as reads
+use Rattle.sound.proofs.mark_blocks.Lts as lts
+use Rattle.model.proofs.first_free.Reads as first-free-reads
+use Rattle.model.proofs.start.Reads as start-reads
+use Rattle.sound.proofs.links_right.Reads as links-right-reads
+use Rattle.sound.proofs.mark_used.Reads as mark-used-reads
+use Rattle.sound.proofs.tags_right.Reads as tags-right-reads
+use Rattle.words.proofs.word.Reads as word-reads
 
 abbrev Inv-loop : tie.InvT-loop
-Inv-loop h m₀ end n₀ p₀ prev₀ touching₀ link₀ m n p prev touching link = BlocksInv h end m₀ m n p prev touching link
+Inv-loop w h m₀ end n₀ p₀ prev₀ touching₀ link₀ m n p prev touching link = BlocksInv w h end m₀ m n p prev touching link
 
 abbrev μ-loop : tie.MeasureT-loop
-μ-loop h m₀ end n₀ p₀ prev₀ touching₀ link₀ m n p prev touching link = end - p
+μ-loop w h m₀ end n₀ p₀ prev₀ touching₀ link₀ m n p prev touching link = end - p
+
+start-requires : tie.Need-start-requires Inv-loop μ-loop
+start-requires c κs = search needs
+
+first-free-requires : tie.Need-first-free-requires Inv-loop μ-loop
+first-free-requires c κs = search needs
 
 word-requires : tie.Need-word-requires Inv-loop μ-loop
 word-requires c κs = omega arith
 
 loop-holds : tie.Need-loop-holds Inv-loop μ-loop
-loop-holds c = blocks-start _ (c .word .ensures) (c .before .before .before .pre .0) (c .before .before .before .pre .1)
+loop-holds c = blocks-start _ _ (read-at _ _ (c .word .ensures) (c .before .first-free .ensures)) (c .before .before .before .before .before .pre .0) (c .before .before .before .before .before .pre .1) (c .before .before .start .ensures)
 
 word-requires-2 : tie.Need-word-requires-2 Inv-loop μ-loop
 word-requires-2 c κs = omega (arith, c .before .loop .inv .inside, c .before .loop .inv .eight, c .loop-test .taken)
@@ -32,8 +48,8 @@ tags-right-requires c κs = omega arith
 
 -- what the tests of the tags have told
 tags : (c : tie.Else1 Inv-loop μ-loop)
-    → (32 ≤ c .before .before .word2 .result - c .before .before .word2 .result % 8) × (c .before .before .before .before .loop .p + (c .before .before .word2 .result - c .before .before .word2 .result % 8) ≤ c .before .before .before .before .before .before .before .before .args .end)
-    × (wordAt 8 (c .before .before .before .before .before .before .before .before .args .h .now) (c .before .before .before .before .loop .p + (c .before .before .word2 .result - c .before .before .word2 .result % 8) - 8) ≡ c .before .before .word2 .result)
+    → (4 * c .before .before .before .before .before .before .before .before .before .before .args .w ≤ c .before .before .word2 .result - c .before .before .word2 .result % 8) × (c .before .before .before .before .loop .p + (c .before .before .word2 .result - c .before .before .word2 .result % 8) ≤ c .before .before .before .before .before .before .before .before .before .before .args .end)
+    × (wordAt (c .before .before .before .before .before .before .before .before .before .before .args .w) (c .before .before .before .before .before .before .before .before .before .before .args .h .now) (c .before .before .before .before .loop .p + (c .before .before .word2 .result - c .before .before .word2 .result % 8) - c .before .before .before .before .before .before .before .before .before .before .args .w) ≡ c .before .before .word2 .result)
 tags c = c .before .tags-right .ensures .yes-is (not-false _ (c .if1 .left))
 
 same-length : tie.Need-same-length Inv-loop μ-loop
@@ -43,7 +59,7 @@ returns : tie.Need-returns Inv-loop μ-loop
 returns c = blocks-no (c .before .before .before .before .loop .inv) (c .before .before .before .loop-test .taken) _ _ (c .before .before .word2 .ensures) refl _ (λ y. clash _ (not-true _ (c .if1 .taken)) (c .before .tags-right .ensures .is-yes (y .big, y .inside, y .tag)))
 
 links-right-requires : tie.Need-links-right-requires Inv-loop μ-loop
-links-right-requires c κs = (tags (c .before) .0, omega (arith, tags (c .before) .1, c .before .before .before .before .before .before .before .before .before .pre .0 .inside), c .before .before .before .before .before .before .before .before .before .pre .0 .short)
+links-right-requires c κs = (c .before .before .before .before .before .loop .inv .width, tags (c .before) .0, omega (arith, tags (c .before) .1, c .before .before .before .before .before .before .before .before .before .before .before .pre .0 .inside), c .before .before .before .before .before .before .before .before .before .before .before .pre .0 .short)
 
 same-length-2 : tie.Need-same-length-2 Inv-loop μ-loop
 same-length-2 c = c .before .before .before .before .before .before .before .loop .inv .size
@@ -67,7 +83,7 @@ loop-again : tie.Need-loop-again Inv-loop μ-loop
 loop-again c = blocks-free (c .before .before .before .before .before .before .before .before .loop .inv) (c .before .before .before .before .before .before .before .loop-test .taken) _ _ (c .before .before .before .before .before .before .word2 .ensures) refl (tags (c .before .before .before .before) .0) (tags (c .before .before .before .before) .1) (tags (c .before .before .before .before) .2) (c .before .before .before .if2 .taken) (c .before .before .links-right .ensures .yes-is (not-false _ (c .before .if3 .left)) .0) (c .before .before .links-right .ensures .yes-is (not-false _ (c .before .if3 .left)) .1) (c .before .before .links-right .ensures .yes-is (not-false _ (c .before .if3 .left)) .2) _ (c .word3 .ensures)
 
 mark-used-requires : tie.Need-mark-used-requires Inv-loop μ-loop
-mark-used-requires c κs = record { low = c .before .before .before .before .before .before .loop .inv .low; eight = c .before .before .before .before .before .before .loop .inv .eight; size = tags (c .before .before) .0; size-eight = omega arith; inside = omega (arith, tags (c .before .before) .1, c .before .before .before .before .before .before .before .before .before .before .pre .0 .inside); short = c .before .before .before .before .before .before .before .before .before .before .pre .0 .short; map = omega (arith, tags (c .before .before) .1, c .before .before .before .before .before .before .loop .inv .map); marking = c .before .before .before .before .before .before .loop .inv .marking }
+mark-used-requires c κs = record { width = c .before .before .before .before .before .before .loop .inv .width; low = c .before .before .before .before .before .before .loop .inv .low; eight = c .before .before .before .before .before .before .loop .inv .eight; size = tags (c .before .before) .0; size-eight = omega arith; inside = omega (arith, tags (c .before .before) .1, c .before .before .before .before .before .before .before .before .before .before .before .before .pre .0 .inside); short = c .before .before .before .before .before .before .before .before .before .before .before .before .pre .0 .short; map = omega (arith, tags (c .before .before) .1, c .before .before .before .before .before .before .loop .inv .map); marking = c .before .before .before .before .before .before .loop .inv .marking }
 
 same-length-3 : tie.Need-same-length-3 Inv-loop μ-loop
 same-length-3 c = search needs
@@ -102,6 +118,8 @@ mark-blocks-spec =
     (tie.spec
     Inv-loop
     μ-loop
+    start-requires
+    first-free-requires
     word-requires
     loop-holds
     word-requires-2

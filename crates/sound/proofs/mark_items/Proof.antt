@@ -1,17 +1,24 @@
+use Rattle.sound.proofs.Places.{whole, bit-room}
+use borrow.Author.Needs.{needs}
 use native.Mathlib.Omega.{arith}
 use Prim.Native.Nat.{_-_, _/_}
 use Rattle.sound.proofs.Pages.{ItemsInv, items-start, items-fit, items-wrong, items-turn-idle, items-turn-held, items-done}
 use Rattle.sound.proofs.mark_items.Statement.{statement}
 use Rattle.sound.proofs.mark_items.Tie as tie
+use Rattle.sound.proofs.mark_items.Reads as reads
+use Rattle.sound.proofs.mark_items.Lts as lts
+use Rattle.model.proofs.item_size.Reads as item-size-reads
+use Rattle.words.proofs.bits.mark.Reads as mark-reads
+use Rattle.words.proofs.word.Reads as word-reads
 
 abbrev Inv-loop : tie.InvT-loop
-Inv-loop h m₀ first stop c before size n₀ q₀ m n q = ItemsInv h m₀ first stop c m n q
+Inv-loop w h m₀ first stop c before size n₀ q₀ m n q = ItemsInv w h m₀ first stop c m n q
 
 abbrev μ-loop : tie.MeasureT-loop
-μ-loop h m₀ first stop c before size n₀ q₀ m n q = stop - q
+μ-loop w h m₀ first stop c before size n₀ q₀ m n q = stop - q
 
 item-size-requires : tie.Need-item-size-requires Inv-loop μ-loop
-item-size-requires c κs = c .before .before .pre .class
+item-size-requires c κs = search needs
 
 loop-holds : tie.Need-loop-holds Inv-loop μ-loop
 loop-holds c = items-start (c .before .before .before .pre)
@@ -22,11 +29,20 @@ word-requires c κs = omega (arith, c .before .before .before .before .before .p
 mul-if1 : tie.Need-mul-if1 Inv-loop μ-loop
 mul-if1 c = omega arith
 
+rem-if1 : tie.Need-rem-if1 Inv-loop μ-loop
+rem-if1 c = search needs
+
+mul-if1-2 : tie.Need-mul-if1-2 Inv-loop μ-loop
+mul-if1-2 c = search needs
+
 add-if1 : tie.Need-add-if1 Inv-loop μ-loop
 add-if1 c = omega arith
 
+div-mark : tie.Need-div-mark Inv-loop μ-loop
+div-mark c = search needs
+
 mark-requires : tie.Need-mark-requires Inv-loop μ-loop
-mark-requires c κs = (omega (arith, c .before .before .before .before .loop .inv .map), c .before .before .before .before .loop .inv .marking .clear .from (c .before .before .before .before .loop .q / 8) (omega (arith, c .before .before .before .before .loop .inv .eight)))
+mark-requires c κs = (bit-room (c .before .before .before .before .loop .inv .width) _ _ (omega (arith, c .before .before .before .before .loop .inv .map)), c .before .before .before .before .loop .inv .marking .clear .from _ (omega (arith, whole (c .before .before .before .before .loop .inv .width) _ (c .before .before .before .before .loop .inv .even))))
 
 add-n : tie.Need-add-n Inv-loop μ-loop
 add-n c = omega (arith, c .before .before .before .before .before .before .before .loop .inv .marking .few, c .before .before .before .before .before .before .loop-test .taken, c .before .before .before .before .before .before .before .before .before .before .before .pre .inside, c .before .before .before .before .before .before .before .before .before .before .before .pre .short)
@@ -77,7 +93,10 @@ mark-items-spec =
     loop-holds
     word-requires
     mul-if1
+    rem-if1
+    mul-if1-2
     add-if1
+    div-mark
     mark-requires
     add-n
     add-q

@@ -1,81 +1,23 @@
+use Rattle.words.proofs.WidthLaws.{four}
 use borrow.Author.Needs.{needs}
-use Rattle.words.specs.Word.{wordAt}
 use Rattle.words.proofs.word.Statement.{statement}
 use Rattle.words.proofs.word.Tie as tie
 use Rattle.words.proofs.word.Reads as reads
 use Rattle.words.proofs.word.Lts as lts
-use Rattle.words.proofs.join.Reads as join-reads
+use Rattle.words.proofs.word4.Reads as word4-reads
+use Rattle.words.proofs.word8.Reads as word8-reads
 
-add-p1 : tie.Need-add-p1
-add-p1 c = search needs
+word8-requires : tie.Need-word8-requires
+word8-requires c κs = search needs
 
-add-p2 : tie.Need-add-p2
-add-p2 c = search needs
-
-add-p3 : tie.Need-add-p3
-add-p3 c = search needs
-
-add-p4 : tie.Need-add-p4
-add-p4 c = search needs
-
-add-p5 : tie.Need-add-p5
-add-p5 c = search needs
-
-add-p6 : tie.Need-add-p6
-add-p6 c = search needs
-
-add-p7 : tie.Need-add-p7
-add-p7 c = search needs
-
-shared-slice-read-join : tie.Need-shared-slice-read-join
-shared-slice-read-join c = search needs
-
-shared-slice-read-join-2 : tie.Need-shared-slice-read-join-2
-shared-slice-read-join-2 c = search needs
-
-shared-slice-read-join-3 : tie.Need-shared-slice-read-join-3
-shared-slice-read-join-3 c = search needs
-
-shared-slice-read-join-4 : tie.Need-shared-slice-read-join-4
-shared-slice-read-join-4 c = search needs
-
-shared-slice-read-join-5 : tie.Need-shared-slice-read-join-5
-shared-slice-read-join-5 c = search needs
-
-shared-slice-read-join-6 : tie.Need-shared-slice-read-join-6
-shared-slice-read-join-6 c = search needs
-
-shared-slice-read-join-7 : tie.Need-shared-slice-read-join-7
-shared-slice-read-join-7 c = search needs
-
-shared-slice-read-join-8 : tie.Need-shared-slice-read-join-8
-shared-slice-read-join-8 c = search needs
-
-join-requires : tie.Need-join-requires
-join-requires c κs = search needs
+word4-requires : tie.Need-word4-requires
+word4-requires c κs = search needs
 
 returns : tie.Need-returns
-unfolding wordAt
-returns c = search needs
+returns c = rw (c .before .if1 .taken) (c .word8 .ensures)
+
+returns-2 : tie.Need-returns-2
+returns-2 c = rw (four _ (c .before .before .before .pre .0) (c .before .if1 .left)) (c .word4 .ensures)
 
 pub word-spec : {M : Type 1} → statement M
-word-spec =
-    tie.close
-    (tie.spec
-    add-p1
-    add-p2
-    add-p3
-    add-p4
-    add-p5
-    add-p6
-    add-p7
-    shared-slice-read-join
-    shared-slice-read-join-2
-    shared-slice-read-join-3
-    shared-slice-read-join-4
-    shared-slice-read-join-5
-    shared-slice-read-join-6
-    shared-slice-read-join-7
-    shared-slice-read-join-8
-    join-requires
-    returns)
+word-spec = tie.close (tie.spec word8-requires word4-requires returns returns-2)

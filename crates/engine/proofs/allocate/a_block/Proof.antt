@@ -1,5 +1,6 @@
+use Rattle.model.proofs.Sizes.{most-bound}
 use native.Mathlib.Omega.{arith}
-use Rattle.model.specs.Shape.{wide}
+use Rattle.model.specs.Shape.{shape}
 use Rattle.model.proofs.Spots.{spot-middle}
 use Rattle.model.proofs.Taken.{block-in}
 use Rattle.engine.proofs.Allocating.{spotted, block-none, block-taken}
@@ -19,19 +20,19 @@ same-length : tie.Need-same-length
 same-length c = search needs
 
 returns : tie.Need-returns
-returns c = block-none (c .before .before .before .before .pre .0) _ (c .before .find-fit .result) (c .before .find-fit .ensures) (c .if1 .taken)
+returns c = block-none (c .before .before .before .before .before .pre .0) _ (c .before .before .find-fit .result .0) (c .before .before .find-fit .ensures) (c .if1 .taken)
 
 take-requires : tie.Need-take-requires
-take-requires c κs = (spotted (c .before .before .before .before .before .pre .0) _ _ (c .before .before .find-fit .ensures) (c .before .if1 .left), c .before .before .before .before .before .pre .1)
+take-requires c κs = (spotted (c .before .before .before .before .before .before .pre .0) _ _ (c .before .before .before .find-fit .ensures) (c .before .if1 .left), c .before .before .before .before .before .before .pre .1)
 
 address-of-requires : tie.Need-address-of-requires
-address-of-requires c κs = omega (arith, block-in wide (spot-middle wide (spotted (c .before .before .before .before .before .before .before .before .pre .0) (c .before .before .before .before .before .before .before .before .args .need) (c .before .before .before .before .before .find-fit .result) (c .before .before .before .before .before .find-fit .ensures) (c .before .before .before .before .if1 .left) .is)), c .before .before .before .before .before .before .before .before .pre .0 .short)
+address-of-requires c κs = omega (arith, block-in (shape (c .before .before .before .before .before .before .before .before .before .args .w)) (spot-middle (shape (c .before .before .before .before .before .before .before .before .before .args .w)) (spotted (c .before .before .before .before .before .before .before .before .before .pre .0) (c .before .before .before .before .before .before .before .before .before .args .need) (c .before .before .before .before .before .before .find-fit .result .0) (c .before .before .before .before .before .before .find-fit .ensures) (c .before .before .before .before .if1 .left) .is)), c .before .before .before .before .before .before .before .before .before .pre .0 .short, most-bound (c .before .before .before .before .before .before .before .before .before .pre .0 .width))
 
 same-length-2 : tie.Need-same-length-2
 same-length-2 c = search needs
 
 returns-2 : tie.Need-returns-2
-returns-2 c = block-taken (c .before .before .before .before .before .before .before .before .before .pre .0) _ (c .before .before .before .before .before .before .find-fit .result) _ _ (c .before .before .before .before .before .before .find-fit .ensures) (c .before .before .before .before .before .if1 .left) (c .before .before .before .before .before .before .before .before .before .pre .1) (c .before .before .before .take .ensures) (c .address-of .ensures)
+returns-2 c = block-taken (c .before .before .before .before .before .before .before .before .before .before .pre .0) _ (c .before .before .before .before .before .before .before .find-fit .result .0) _ _ (c .before .before .before .before .before .before .before .find-fit .ensures) (c .before .before .before .before .before .if1 .left) (c .before .before .before .before .before .before .before .before .before .before .pre .1) (c .before .before .before .take .ensures) (c .address-of .ensures)
 
 pub a-block-spec : {M : Type 1} → statement M
 a-block-spec =

@@ -2,7 +2,7 @@ use Prim.Native.Nat.{ℕ, _+_, _*_}
 use mathlib.Core.Path.{_≡_, sym, ap, _∙_}
 use Rattle.words.specs.Word.{wordAt}
 use native.Mathlib.Omega.{arith}
-use Rattle.model.specs.Shape.{wide, pageNeed}
+use Rattle.model.specs.Shape.{shape, index, pageNeed}
 use Rattle.engine.proofs.Allocating.{Finds, finds-page, ready-long, spotted, has-item, item-given, no-item, page-none, made-item, page-given}
 use borrow.Author.Needs.{needs}
 use Rattle.engine.proofs.allocate.an_item.Statement.{statement}
@@ -10,34 +10,34 @@ use Rattle.engine.proofs.allocate.an_item.Tie as tie
 use Rattle.engine.proofs.allocate.an_item.Reads as reads
 use Rattle.engine.proofs.allocate.an_item.Lts as lts
 use Rattle.engine.proofs.blocks.find_fit.Reads as find-fit-reads
-use Rattle.engine.proofs.items.head_at.Reads as head-at-reads
 use Rattle.engine.proofs.items.take.Reads as take-reads
 use Rattle.engine.proofs.pages.make.Reads as make-reads
+use Rattle.model.proofs.head_at.Reads as head-at-reads
 use Rattle.model.proofs.page_need.Reads as page-need-reads
 use Rattle.words.proofs.word.Reads as word-reads
-
--- the head of the class, as it was read
-head : (c : tie.After-word) → c .word .result ≡ wordAt 8 (c .before .before .before .before .args .h .now) (48 + 8 * c .before .before .before .before .args .c)
-head c = c .word .ensures ∙ ap (λ (x : ℕ). wordAt 8 (c .before .before .before .before .args .h .now) x) (c .before .head-at .ensures)
-
--- where a page fits first
-found : (c : tie.After-find-fit) → Finds (c .before .before .before .before .before .before .before .before .args .h .now) (pageNeed wide (c .before .before .before .before .before .before .before .before .args .c)) (c .find-fit .result)
-found c = finds-page (c .before .page-need .result) (c .find-fit .result) (c .before .before .before .before .before .before .before .before .args .c) (c .before .page-need .ensures) (c .find-fit .ensures)
 
 head-at-requires : tie.Need-head-at-requires
 head-at-requires c κs = search needs
 
+-- the head of the class, as it was read
+head : (c : tie.After-word) → c .word .result ≡ wordAt (c .before .before .before .before .args .w) (c .before .before .before .before .args .h .now) (index (shape (c .before .before .before .before .args .w)) + c .before .before .before .before .args .w * c .before .before .before .before .args .c)
+head c = c .word .ensures ∙ ap (λ (x : ℕ). wordAt (c .before .before .before .before .args .w) (c .before .before .before .before .args .h .now) x) (c .before .head-at .ensures .0)
+
+-- where a page fits first
+found : (c : tie.After-find-fit) → Finds (c .before .before .before .before .before .before .before .before .args .w) (c .before .before .before .before .before .before .before .before .args .h .now) (pageNeed (shape (c .before .before .before .before .before .before .before .before .args .w)) (c .before .before .before .before .before .before .before .before .args .c)) (c .find-fit .result .0)
+found c = finds-page (c .before .page-need .result) (c .find-fit .result .0) (c .before .before .before .before .before .before .before .before .args .c) (c .before .page-need .ensures) (c .find-fit .ensures)
+
 word-requires : tie.Need-word-requires
-word-requires c κs = omega (arith, c .head-at .ensures, c .before .before .before .pre .class, ready-long (c .before .before .before .pre .ready))
+word-requires c κs = (c .before .before .before .pre .ready .width, omega (arith, c .head-at .ensures .1, ready-long (c .before .before .before .pre .ready)))
 
 take-requires : tie.Need-take-requires
-take-requires c κs = has-item (c .before .before .before .before .before .before .pre .ready) (c .before .before .before .before .before .before .pre .class) (λ z. c .before .if1 .taken (head (c .before .before) ∙ z))
+take-requires c κs = has-item (c .before .before .before .before .before .before .pre .ready) (c .before .before .before .before .before .before .pre .class) (λ z. omega (arith, z, head (c .before .before), c .before .if1 .taken))
 
 same-length : tie.Need-same-length
 same-length c = search needs
 
 returns : tie.Need-returns
-returns c = item-given (c .before .before .before .before .before .before .before .before .before .pre .ready) (c .before .before .before .before .before .before .before .before .before .pre .class) _ _ (λ z. c .before .before .before .before .if1 .taken (head (c .before .before .before .before .before) ∙ z)) (c .before .before .take .ensures)
+returns c = item-given (c .before .before .before .before .before .before .before .before .before .pre .ready) (c .before .before .before .before .before .before .before .before .before .pre .class) _ _ (λ z. omega (arith, z, head (c .before .before .before .before .before), c .before .before .before .before .if1 .taken)) (c .before .before .take .ensures)
 
 page-need-requires : tie.Need-page-need-requires
 page-need-requires c κs = search needs
@@ -49,19 +49,19 @@ same-length-2 : tie.Need-same-length-2
 same-length-2 c = search needs
 
 returns-2 : tie.Need-returns-2
-returns-2 c = page-none (c .before .before .before .before .before .before .before .before .before .pre .ready) (c .before .before .before .before .before .before .before .before .before .pre .class) (sym (head (c .before .before .before .before .before)) ∙ c .before .before .before .before .if1 .left) _ (found (c .before)) (c .if2 .taken)
+returns-2 c = page-none (c .before .before .before .before .before .before .before .before .before .before .pre .ready) (c .before .before .before .before .before .before .before .before .before .before .pre .class) (sym (head (c .before .before .before .before .before .before)) ∙ c .before .before .before .before .before .if1 .left) _ (found (c .before .before)) (c .if2 .taken)
 
 make-requires : tie.Need-make-requires
-make-requires c κs = ((spotted (c .before .before .before .before .before .before .before .before .before .before .pre .ready) _ _ (found (c .before .before)) (c .before .if2 .left)), no-item (c .before .before .before .before .before .before .before .before .before .before .pre .ready) (c .before .before .before .before .before .before .before .before .before .before .pre .class) (sym (head (c .before .before .before .before .before .before)) ∙ c .before .before .before .before .before .if1 .left))
+make-requires c κs = ((spotted (c .before .before .before .before .before .before .before .before .before .before .before .pre .ready) _ _ (found (c .before .before .before)) (c .before .if2 .left)), no-item (c .before .before .before .before .before .before .before .before .before .before .before .pre .ready) (c .before .before .before .before .before .before .before .before .before .before .before .pre .class) (sym (head (c .before .before .before .before .before .before .before)) ∙ c .before .before .before .before .before .before .if1 .left))
 
 take-requires-2 : tie.Need-take-requires-2
-take-requires-2 c κs = made-item (c .before .before .before .before .before .before .before .before .before .before .before .before .before .before .pre .ready) (c .before .before .before .before .before .before .before .before .before .before .before .before .before .before .pre .class) (sym (head (c .before .before .before .before .before .before .before .before .before .before)) ∙ c .before .before .before .before .before .before .before .before .before .if1 .left) _ _ (c .before .before .before .make .ensures) (spotted (c .before .before .before .before .before .before .before .before .before .before .before .before .before .before .pre .ready) _ _ (found (c .before .before .before .before .before .before)) (c .before .before .before .before .before .if2 .left))
+take-requires-2 c κs = made-item (c .before .before .before .before .before .before .before .before .before .before .before .before .before .before .before .pre .ready) (c .before .before .before .before .before .before .before .before .before .before .before .before .before .before .before .pre .class) (sym (head (c .before .before .before .before .before .before .before .before .before .before .before)) ∙ c .before .before .before .before .before .before .before .before .before .before .if1 .left) _ _ (c .before .before .before .make .ensures) (spotted (c .before .before .before .before .before .before .before .before .before .before .before .before .before .before .before .pre .ready) _ _ (found (c .before .before .before .before .before .before .before)) (c .before .before .before .before .before .if2 .left))
 
 same-length-3 : tie.Need-same-length-3
 same-length-3 c = search needs
 
 returns-3 : tie.Need-returns-3
-returns-3 c = page-given (c .before .before .before .before .before .before .before .before .before .before .before .before .before .before .before .before .before .pre .ready) (c .before .before .before .before .before .before .before .before .before .before .before .before .before .before .before .before .before .pre .class) (sym (head (c .before .before .before .before .before .before .before .before .before .before .before .before .before)) ∙ c .before .before .before .before .before .before .before .before .before .before .before .before .if1 .left) _ _ (c .before .before .before .before .before .before .make .ensures) (found (c .before .before .before .before .before .before .before .before .before)) (c .before .before .before .before .before .before .before .before .if2 .left) _ _ (c .before .before .take2 .ensures) (λ i. c .before .before .before .before .before .before .before .before .before .before .before .before .before .before .before .before .slice-known .given i .fits)
+returns-3 c = page-given (c .before .before .before .before .before .before .before .before .before .before .before .before .before .before .before .before .before .before .pre .ready) (c .before .before .before .before .before .before .before .before .before .before .before .before .before .before .before .before .before .before .pre .class) (sym (head (c .before .before .before .before .before .before .before .before .before .before .before .before .before .before)) ∙ c .before .before .before .before .before .before .before .before .before .before .before .before .before .if1 .left) _ _ (c .before .before .before .before .before .before .make .ensures) (found (c .before .before .before .before .before .before .before .before .before .before)) (c .before .before .before .before .before .before .before .before .if2 .left) _ _ (c .before .before .take2 .ensures) (λ i. c .before .before .before .before .before .before .before .before .before .before .before .before .before .before .before .before .before .slice-known .given i .fits)
 
 pub an-item-spec : {M : Type 1} → statement M
 an-item-spec =

@@ -23,7 +23,7 @@ same-length : tie.Need-same-length
 same-length c = search needs
 
 returns : tie.Need-returns
-returns c = ⊎-elim (λ w. low-rest _ _ _ _ (w .0 .taken) _ _ _ (w .1) (c .before .before .before .before .before .before .put-word .ensures) (c .before .before .put-word2 .ensures)) (λ w. low-whole _ _ _ _ (w .0 .left) _ _ _ (w .1) (c .before .before .before .before .before .before .put-word .ensures) (c .before .before .put-word2 .ensures)) (c .before .before .before .before .before .before .before .before .if1 .came)
+returns c = ⊎-elim (λ w. low-rest (c .before .before .before .before .before .before .before .before .before .before .before .args .w) _ _ _ _ (w .0 .taken) _ _ _ (w .2) (c .before .before .before .before .before .before .put-word .ensures) (c .before .before .put-word2 .ensures)) (λ w. low-whole (c .before .before .before .before .before .before .before .before .before .before .before .args .w) _ _ _ _ (w .0 .left) _ _ _ (w .1) (c .before .before .before .before .before .before .put-word .ensures) (c .before .before .put-word2 .ensures)) (c .before .before .before .before .before .before .before .before .if1 .came)
 
 pub put-low-spec : {M : Type 1} → statement M
 put-low-spec =

@@ -20,6 +20,9 @@ word-requires-2 c κs = search needs
 add-word-2 : tie.Need-add-word-2
 add-word-2 c = search needs
 
+mul-word : tie.Need-mul-word
+mul-word c = search needs
+
 sub-word : tie.Need-sub-word
 sub-word c = search needs
 
@@ -27,10 +30,10 @@ word-requires-3 : tie.Need-word-requires-3
 word-requires-3 c κs = search needs
 
 link-at-requires : tie.Need-link-at-requires
-link-at-requires c κs = omega (arith, rw (c .before .before .word .ensures) at (c .word3 .ensures), c .before .before .before .before .pre .prev-low, c .before .before .before .before .good .0 .1)
+link-at-requires c κs = omega (arith, rw (c .before .before .before .before .word .ensures) at (c .word3 .ensures), c .before .before .before .before .before .before .pre .prev-low, c .before .before .before .before .before .before .good .0 .1)
 
 back-at-requires : tie.Need-back-at-requires
-back-at-requires c κs = rw (c .before .before .word2 .ensures) (c .before .before .before .before .before .pre .behind)
+back-at-requires c κs = rw (c .before .before .before .word2 .ensures) (c .before .before .before .before .before .before .before .pre .behind)
 
 returns : tie.Need-returns
 returns c = search needs
@@ -43,6 +46,7 @@ read-spec =
     add-word
     word-requires-2
     add-word-2
+    mul-word
     sub-word
     word-requires-3
     link-at-requires

@@ -1,6 +1,7 @@
+use Rattle.model.proofs.Sizes.{most-bound}
 use mathlib.Core.Path.{refl}
 use native.Mathlib.Omega.{arith}
-use Rattle.model.specs.Shape.{wide}
+use Rattle.model.specs.Shape.{shape}
 use Rattle.model.proofs.Spots.{spot-middle}
 use Rattle.model.proofs.Taken.{block-in}
 use Rattle.engine.proofs.Taking.{gap-room, need-part}
@@ -16,16 +17,16 @@ use Rattle.engine.proofs.blocks.read.Reads as read-reads
 use Rattle.engine.proofs.blocks.taken.Reads as taken-reads
 
 read-requires : tie.Need-read-requires
-read-requires c κs = gap-room (spot-middle wide (c .before .before .pre .0 .is))
+read-requires c κs = gap-room (c .before .before .pre .1 .width) (spot-middle (shape (c .before .before .args .w)) (c .before .before .pre .0 .is))
 
 taken-requires : tie.Need-taken-requires
-taken-requires c κs = omega (arith, c .before .before .before .pre .0 .is .split .large, block-in wide (spot-middle wide (c .before .before .before .pre .0 .is)), c .before .before .before .pre .1 .short)
+taken-requires c κs = omega (arith, c .before .before .before .pre .0 .is .split .large, block-in (shape (c .before .before .before .args .w)) (spot-middle (shape (c .before .before .before .args .w)) (c .before .before .before .pre .0 .is)), c .before .before .before .pre .1 .short, most-bound (c .before .before .before .pre .1 .width))
 
 put-low-requires : tie.Need-put-low-requires
-put-low-requires c κs = need-part (spot-middle wide (c .before .before .before .before .before .pre .0 .is)) (c .before .before .read .result) (c .before .before .read .ensures) _ (c .before .taken .result) 2 _ (c .before .before .before .before .before .pre .0 .is .split .large) (c .before .taken .ensures) refl (omega (arith, c .before .before .before .before .before .pre .1 .short)) (omega (arith, c .before .before .before .before .before .pre .1 .large)) (omega arith)
+put-low-requires c κs = need-part (c .before .before .before .before .before .pre .1 .width) (spot-middle (shape (c .before .before .before .before .before .args .w)) (c .before .before .before .before .before .pre .0 .is)) (c .before .before .read .result) (c .before .before .read .ensures) _ (c .before .taken .result) 2 _ (c .before .before .before .before .before .pre .0 .is .split .large) (c .before .taken .ensures) refl (omega (arith, c .before .before .before .before .before .pre .1 .short, most-bound (c .before .before .before .before .before .pre .1 .width))) (omega (arith, c .before .before .before .before .before .pre .1 .large)) (omega arith)
 
 put-high-requires : tie.Need-put-high-requires
-put-high-requires c κs = need-part (spot-middle wide (c .before .before .before .before .before .before .before .before .before .pre .0 .is)) (c .before .before .before .before .before .before .read .result) (c .before .before .before .before .before .before .read .ensures) _ (c .before .before .before .before .before .taken .result) 2 _ (c .before .before .before .before .before .before .before .before .before .pre .0 .is .split .large) (c .before .before .before .before .before .taken .ensures) (search needs) (omega (arith, c .before .before .before .before .before .before .before .before .before .pre .1 .short)) (omega (arith, c .before .before .before .before .before .before .before .before .before .pre .1 .large)) (omega arith)
+put-high-requires c κs = need-part (c .before .before .before .before .before .before .before .before .before .pre .1 .width) (spot-middle (shape (c .before .before .before .before .before .before .before .before .before .args .w)) (c .before .before .before .before .before .before .before .before .before .pre .0 .is)) (c .before .before .before .before .before .before .read .result) (c .before .before .before .before .before .before .read .ensures) _ (c .before .before .before .before .before .taken .result) 2 _ (c .before .before .before .before .before .before .before .before .before .pre .0 .is .split .large) (c .before .before .before .before .before .taken .ensures) (search needs) (omega (arith, c .before .before .before .before .before .before .before .before .before .pre .1 .short, most-bound (c .before .before .before .before .before .before .before .before .before .pre .1 .width))) (omega (arith, c .before .before .before .before .before .before .before .before .before .pre .1 .large)) (omega arith)
 
 same-length : tie.Need-same-length
 same-length c = search needs

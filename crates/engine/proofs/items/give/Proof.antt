@@ -1,3 +1,5 @@
+use Rattle.engine.proofs.GiveLaws.{give-at, give-first}
+use Rattle.model.proofs.Sizes.{most-bound}
 use native.Mathlib.Omega.{arith}
 use Rattle.engine.proofs.GiveLaws.{give-numbers, give-law}
 use borrow.Author.Needs.{needs}
@@ -5,52 +7,49 @@ use Rattle.engine.proofs.items.give.Statement.{statement}
 use Rattle.engine.proofs.items.give.Tie as tie
 use Rattle.engine.proofs.items.give.Reads as reads
 use Rattle.engine.proofs.items.give.Lts as lts
+use Rattle.model.proofs.head_at.Reads as head-at-reads
 use Rattle.model.proofs.offset_of.Reads as offset-of-reads
 use Rattle.words.proofs.put_word.Reads as put-word-reads
 use Rattle.words.proofs.word.Reads as word-reads
 
-mul-head : tie.Need-mul-head
-mul-head c = omega (arith, give-numbers _ _ _ (c .before .pre))
-
-add-head : tie.Need-add-head
-add-head c = omega (arith, give-numbers _ _ _ (c .before .pre))
+head-at-requires : tie.Need-head-at-requires
+head-at-requires c κs = (c .before .pre .width, give-numbers _ _ _ (c .before .pre) .class)
 
 offset-of-requires : tie.Need-offset-of-requires
 offset-of-requires c κs = search needs
 
 word-requires : tie.Need-word-requires
-word-requires c κs = omega (arith, give-numbers _ _ _ (c .before .before .before .pre))
+word-requires c κs = omega (arith, most-bound (c .before .before .before .before .pre .width), give-numbers _ _ _ (c .before .before .before .before .pre))
 
 put-word-requires : tie.Need-put-word-requires
-put-word-requires c κs = omega (arith, give-numbers _ _ _ (c .before .before .before .before .before .pre))
+put-word-requires c κs = omega (arith, most-bound (c .before .before .before .before .before .before .pre .width), give-numbers _ _ _ (c .before .before .before .before .before .before .pre))
 
 mul-put-word : tie.Need-mul-put-word
-mul-put-word c = omega (arith, give-numbers _ _ _ (c .before .before .before .before .before .before .before .before .before .pre), c .before .before .before .before .before .word .ensures)
+mul-put-word c = omega (arith, most-bound (c .before .before .before .before .before .before .before .before .before .before .pre .width), give-numbers _ _ _ (c .before .before .before .before .before .before .before .before .before .before .pre) .class, give-first _ _ _ (c .before .before .before .before .before .before .before .before .before .before .pre) (c .before .before .before .before .before .before .before .before .head-at .result) (c .before .before .before .before .before .word .result) (c .before .before .before .before .before .before .before .before .head-at .ensures .0) (c .before .before .before .before .before .word .ensures))
 
 mul-put-word-2 : tie.Need-mul-put-word-2
-mul-put-word-2 c = omega (arith, give-numbers _ _ _ (c .before .before .before .before .before .before .before .before .before .pre))
+mul-put-word-2 c = omega (arith, most-bound (c .before .before .before .before .before .before .before .before .before .before .pre .width), give-numbers _ _ _ (c .before .before .before .before .before .before .before .before .before .before .pre))
 
 add-put-word : tie.Need-add-put-word
-add-put-word c = omega (arith, give-numbers _ _ _ (c .before .before .before .before .before .before .before .before .before .pre), c .before .before .before .before .before .word .ensures)
+add-put-word c = omega (arith, most-bound (c .before .before .before .before .before .before .before .before .before .before .pre .width), give-numbers _ _ _ (c .before .before .before .before .before .before .before .before .before .before .pre) .class, give-first _ _ _ (c .before .before .before .before .before .before .before .before .before .before .pre) (c .before .before .before .before .before .before .before .before .head-at .result) (c .before .before .before .before .before .word .result) (c .before .before .before .before .before .before .before .before .head-at .ensures .0) (c .before .before .before .before .before .word .ensures))
 
 add-put-word-2 : tie.Need-add-put-word-2
-add-put-word-2 c = omega (arith, give-numbers _ _ _ (c .before .before .before .before .before .before .before .before .before .pre), c .before .before .before .before .before .word .ensures)
+add-put-word-2 c = omega (arith, most-bound (c .before .before .before .before .before .before .before .before .before .before .pre .width), give-numbers _ _ _ (c .before .before .before .before .before .before .before .before .before .before .pre) .class, give-first _ _ _ (c .before .before .before .before .before .before .before .before .before .before .pre) (c .before .before .before .before .before .before .before .before .head-at .result) (c .before .before .before .before .before .word .result) (c .before .before .before .before .before .before .before .before .head-at .ensures .0) (c .before .before .before .before .before .word .ensures))
 
 put-word-requires-2 : tie.Need-put-word-requires-2
-put-word-requires-2 c κs = omega (arith, give-numbers _ _ _ (c .before .before .before .before .before .before .before .before .before .pre))
+put-word-requires-2 c κs = omega (arith, most-bound (c .before .before .before .before .before .before .before .before .before .before .pre .width), give-numbers _ _ _ (c .before .before .before .before .before .before .before .before .before .before .pre))
 
 same-length : tie.Need-same-length
 same-length c = search needs
 
 returns : tie.Need-returns
-returns c = give-law _ _ _ (c .before .before .before .before .before .before .before .before .before .before .before .before .pre) (λ i. c .before .before .before .before .before .before .before .before .before .before .before .slice-known .given i .fits) _ (c .before .before .before .before .before .before .before .before .word .ensures) _ _ (rw (c .before .before .before .before .before .before .before .before .before .before .offset-of .ensures) at (c .before .before .before .before .before .before .put-word .ensures)) (c .before .before .put-word2 .ensures)
+returns c = give-at _ _ _ (c .before .before .before .before .before .before .before .before .before .before .before .before .before .pre) (λ i. c .before .before .before .before .before .before .before .before .before .before .before .before .slice-known .given i .fits) _ _ (c .before .before .before .before .before .before .before .before .before .before .before .head-at .ensures .0) (c .before .before .before .before .before .before .before .before .word .ensures) _ _ (rw (c .before .before .before .before .before .before .before .before .before .before .offset-of .ensures) at (c .before .before .before .before .before .before .put-word .ensures)) (c .before .before .put-word2 .ensures)
 
 pub give-spec : {M : Type 1} → statement M
 give-spec =
     tie.close
     (tie.spec
-    mul-head
-    add-head
+    head-at-requires
     offset-of-requires
     word-requires
     put-word-requires

@@ -1,3 +1,4 @@
+use Rattle.model.proofs.Sizes.{most-bound}
 use Prim.Native.Nat.{ℕ}
 use mathlib.Core.Path.{refl, ap, _∙_}
 use native.Mathlib.Omega.{arith}
@@ -8,8 +9,8 @@ use Rattle.engine.proofs.items.take.Statement.{statement}
 use Rattle.engine.proofs.items.take.Tie as tie
 use Rattle.engine.proofs.items.take.Reads as reads
 use Rattle.engine.proofs.items.take.Lts as lts
-use Rattle.engine.proofs.items.head_at.Reads as head-at-reads
 use Rattle.model.proofs.address_of.Reads as address-of-reads
+use Rattle.model.proofs.head_at.Reads as head-at-reads
 use Rattle.model.proofs.item_at.Reads as item-at-reads
 use Rattle.words.proofs.put_word.Reads as put-word-reads
 use Rattle.words.proofs.word.Reads as word-reads
@@ -21,10 +22,10 @@ word-requires : tie.Need-word-requires
 word-requires c κs = omega (arith, item-long (c .before .before .before .pre), c .before .before .before .pre .class)
 
 item-at-requires : tie.Need-item-at-requires
-item-at-requires c κs = omega (arith, item-there (c .before .before .before .before .pre) (c .word .result) (c .word .ensures ∙ ap (λ (y : ℕ). wordAt 8 (c .before .before .before .before .args .h .now) y) (c .before .before .head-at .ensures)), c .before .before .before .before .pre .short)
+item-at-requires c κs = omega (arith, item-there (c .before .before .before .before .pre) (c .word .result) (c .word .ensures ∙ ap (λ (y : ℕ). wordAt (c .before .before .before .before .args .w) (c .before .before .before .before .args .h .now) y) (c .before .before .head-at .ensures .0)), c .before .before .before .before .pre .short, most-bound (c .before .before .before .before .pre .width))
 
 word-requires-2 : tie.Need-word-requires-2
-word-requires-2 c κs = omega (arith, item-there (c .before .before .before .before .before .before .pre) (c .before .before .word .result) (c .before .before .word .ensures ∙ ap (λ (y : ℕ). wordAt 8 (c .before .before .before .before .before .before .args .h .now) y) (c .before .before .before .before .head-at .ensures)), c .before .before .before .before .before .before .pre .short)
+word-requires-2 c κs = omega (arith, item-there (c .before .before .before .before .before .before .pre) (c .before .before .word .result) (c .before .before .word .ensures ∙ ap (λ (y : ℕ). wordAt (c .before .before .before .before .before .before .args .w) (c .before .before .before .before .before .before .args .h .now) y) (c .before .before .before .before .head-at .ensures .0)), c .before .before .before .before .before .before .pre .short, most-bound (c .before .before .before .before .before .before .pre .width))
 
 mul-next : tie.Need-mul-next
 mul-next c = search needs
@@ -33,7 +34,7 @@ add-next : tie.Need-add-next
 add-next c = search needs
 
 sub-next : tie.Need-sub-next
-sub-next c = rw (c .word2 .ensures, c .before .before .item-at .ensures) ((item-there (c .before .before .before .before .before .before .before .pre) (c .before .before .before .word .result) (c .before .before .before .word .ensures ∙ ap (λ (y : ℕ). wordAt 8 (c .before .before .before .before .before .before .before .args .h .now) y) (c .before .before .before .before .before .head-at .ensures))) .flag)
+sub-next c = rw (c .word2 .ensures, c .before .before .item-at .ensures) ((item-there (c .before .before .before .before .before .before .before .pre) (c .before .before .before .word .result) (c .before .before .before .word .ensures ∙ ap (λ (y : ℕ). wordAt (c .before .before .before .before .before .before .before .args .w) (c .before .before .before .before .before .before .before .args .h .now) y) (c .before .before .before .before .before .head-at .ensures .0))) .flag)
 
 put-word-requires : tie.Need-put-word-requires
 put-word-requires c κs = omega (arith, item-long (c .before .before .before .before .before .before .before .before .pre), c .before .before .before .before .before .before .before .before .pre .class)
@@ -45,16 +46,16 @@ add-put-word : tie.Need-add-put-word
 add-put-word c = search needs
 
 put-word-requires-2 : tie.Need-put-word-requires-2
-put-word-requires-2 c κs = omega (arith, item-there (c .before .before .before .before .before .before .before .before .before .before .before .before .pre) (c .before .before .before .before .before .before .before .before .word .result) (c .before .before .before .before .before .before .before .before .word .ensures ∙ ap (λ (y : ℕ). wordAt 8 (c .before .before .before .before .before .before .before .before .before .before .before .before .args .h .now) y) (c .before .before .before .before .before .before .before .before .before .before .head-at .ensures)), c .before .before .before .put-word .kept .0)
+put-word-requires-2 c κs = omega (arith, item-there (c .before .before .before .before .before .before .before .before .before .before .before .before .pre) (c .before .before .before .before .before .before .before .before .word .result) (c .before .before .before .before .before .before .before .before .word .ensures ∙ ap (λ (y : ℕ). wordAt (c .before .before .before .before .before .before .before .before .before .before .before .before .args .w) (c .before .before .before .before .before .before .before .before .before .before .before .before .args .h .now) y) (c .before .before .before .before .before .before .before .before .before .before .head-at .ensures .0)), c .before .before .before .put-word .kept .1 .0)
 
 address-of-requires : tie.Need-address-of-requires
-address-of-requires c κs = omega (arith, item-there (c .before .before .before .before .before .before .before .before .before .before .before .before .before .before .before .pre) (c .before .before .before .before .before .before .before .before .before .before .before .word .result) (c .before .before .before .before .before .before .before .before .before .before .before .word .ensures ∙ ap (λ (y : ℕ). wordAt 8 (c .before .before .before .before .before .before .before .before .before .before .before .before .before .before .before .args .h .now) y) (c .before .before .before .before .before .before .before .before .before .before .before .before .before .head-at .ensures)), c .before .before .before .before .before .before .before .before .before .before .before .before .before .before .before .pre .short)
+address-of-requires c κs = omega (arith, item-there (c .before .before .before .before .before .before .before .before .before .before .before .before .before .before .before .pre) (c .before .before .before .before .before .before .before .before .before .before .before .word .result) (c .before .before .before .before .before .before .before .before .before .before .before .word .ensures ∙ ap (λ (y : ℕ). wordAt (c .before .before .before .before .before .before .before .before .before .before .before .before .before .before .before .args .w) (c .before .before .before .before .before .before .before .before .before .before .before .before .before .before .before .args .h .now) y) (c .before .before .before .before .before .before .before .before .before .before .before .before .before .head-at .ensures .0)), c .before .before .before .before .before .before .before .before .before .before .before .before .before .before .before .pre .short, most-bound (c .before .before .before .before .before .before .before .before .before .before .before .before .before .before .before .pre .width))
 
 same-length : tie.Need-same-length
 same-length c = search needs
 
 returns : tie.Need-returns
-returns c = item-taken (c .before .before .before .before .before .before .before .before .before .before .before .before .before .before .before .before .pre) (c .before .before .before .before .before .before .before .before .before .before .before .before .word .result) (c .before .before .before .before .before .before .before .before .before .before .before .before .word .ensures ∙ ap (λ (y : ℕ). wordAt 8 (c .before .before .before .before .before .before .before .before .before .before .before .before .before .before .before .before .args .h .now) y) (c .before .before .before .before .before .before .before .before .before .before .before .before .before .before .head-at .ensures)) _ _ _ _ _ _ _ (c .before .before .before .before .before .before .before .before .before .before .before .before .before .before .head-at .ensures) (c .before .before .before .before .before .before .before .before .before .before .before .item-at .ensures) (c .before .before .before .before .before .before .before .before .before .word2 .ensures) refl (c .before .before .before .before .before .before .before .put-word .ensures) (c .before .before .before .put-word2 .ensures) (c .address-of .ensures) (λ i. c .before .before .before .before .before .before .before .before .before .before .before .before .before .before .before .slice-known .given i .fits)
+returns c = item-taken (c .before .before .before .before .before .before .before .before .before .before .before .before .before .before .before .before .pre) (c .before .before .before .before .before .before .before .before .before .before .before .before .word .result) (c .before .before .before .before .before .before .before .before .before .before .before .before .word .ensures ∙ ap (λ (y : ℕ). wordAt (c .before .before .before .before .before .before .before .before .before .before .before .before .before .before .before .before .args .w) (c .before .before .before .before .before .before .before .before .before .before .before .before .before .before .before .before .args .h .now) y) (c .before .before .before .before .before .before .before .before .before .before .before .before .before .before .head-at .ensures .0)) _ _ _ _ _ _ _ (c .before .before .before .before .before .before .before .before .before .before .before .before .before .before .head-at .ensures .0) (c .before .before .before .before .before .before .before .before .before .before .before .item-at .ensures) (c .before .before .before .before .before .before .before .before .before .word2 .ensures) refl (c .before .before .before .before .before .before .before .put-word .ensures) (c .before .before .before .put-word2 .ensures) (c .address-of .ensures) (λ i. c .before .before .before .before .before .before .before .before .before .before .before .before .before .before .before .slice-known .given i .fits)
 
 pub take-spec : {M : Type 1} → statement M
 take-spec =

@@ -1,7 +1,8 @@
+use Rattle.model.proofs.Sizes.{most-bound}
 use native.Mathlib.Omega.{arith}
 use borrow.Author.Needs.{needs}
-use Rattle.model.specs.Shape.{wide}
-use Rattle.engine.proofs.PageLinks.{Linking, link-start, link-room, link-more, link-turn, link-done}
+use Rattle.model.specs.Shape.{shape}
+use Rattle.engine.proofs.PageLinks.{link-small, Linking, link-start, link-room, link-more, link-turn, link-done}
 use Rattle.engine.proofs.pages.link_items.Statement.{statement}
 use Rattle.engine.proofs.pages.link_items.Tie as tie
 use Rattle.engine.proofs.pages.link_items.Reads as reads
@@ -12,10 +13,10 @@ use Rattle.model.proofs.offset_of.Reads as offset-of-reads
 use Rattle.words.proofs.put_word.Reads as put-word-reads
 
 abbrev Inv-loop : tie.InvT-loop
-Inv-loop h₀ c p size left₀ at₀ h left at = Linking h₀ c p size (wide .perPage c) h left at
+Inv-loop w h₀ c size left₀ at₀ h left at = Linking w h₀ c (at₀ .0) size (shape w .perPage c) h left (at .0)
 
 abbrev μ-loop : tie.MeasureT-loop
-μ-loop h₀ c p size left₀ at₀ h left at = left
+μ-loop w h₀ c size left₀ at₀ h left at = left
 
 item-size-requires : tie.Need-item-size-requires Inv-loop μ-loop
 item-size-requires c κs = search needs
@@ -27,28 +28,25 @@ loop-holds : tie.Need-loop-holds Inv-loop μ-loop
 loop-holds c = link-start _ _ _ _ _ (c .before .before .before .pre) (c .before .item-size .ensures) (c .items-in-page .ensures)
 
 add-put-word : tie.Need-add-put-word Inv-loop μ-loop
-add-put-word c = omega (arith, link-more (c .before .loop .inv) (c .loop-test .taken))
+add-put-word c = omega (arith, link-more (c .before .before .loop .inv) (c .before .loop-test .taken))
 
 offset-of-requires : tie.Need-offset-of-requires Inv-loop μ-loop
-offset-of-requires c κs = omega (arith, c .before .loop .inv .low)
+offset-of-requires c κs = omega (arith, c .before .before .before .loop .inv .low)
 
 mul-put-word : tie.Need-mul-put-word Inv-loop μ-loop
-mul-put-word c = search needs
+mul-put-word c = omega (arith, link-small (c .before .before .before .before .before .loop .inv) (c .before .before .before .before .loop-test .taken) _ (c .before .offset-of .ensures))
 
 mul-put-word-2 : tie.Need-mul-put-word-2 Inv-loop μ-loop
 mul-put-word-2 c = search needs
 
 add-put-word-2 : tie.Need-add-put-word-2 Inv-loop μ-loop
-add-put-word-2 c = search needs
+add-put-word-2 c = omega (arith, link-small (c .before .before .before .before .before .loop .inv) (c .before .before .before .before .loop-test .taken) _ (c .before .offset-of .ensures))
 
 add-put-word-3 : tie.Need-add-put-word-3 Inv-loop μ-loop
-add-put-word-3 c = search needs
+add-put-word-3 c = omega (arith, link-small (c .before .before .before .before .before .loop .inv) (c .before .before .before .before .loop-test .taken) _ (c .before .offset-of .ensures))
 
 put-word-requires : tie.Need-put-word-requires Inv-loop μ-loop
-put-word-requires c κs = omega (arith, link-room (c .before .before .before .before .loop .inv), c .before .before .before .before .loop .inv .size-is)
-
-add-at : tie.Need-add-at Inv-loop μ-loop
-add-at c = omega (arith, link-room (c .before .before .before .before .before .before .before .loop .inv))
+put-word-requires c κs = omega (arith, link-room (c .before .before .before .before .before .loop .inv), c .before .before .before .before .before .loop .inv .size-is)
 
 sub-left : tie.Need-sub-left Inv-loop μ-loop
 sub-left c = search needs
@@ -57,7 +55,7 @@ loop-less : tie.Need-loop-less Inv-loop μ-loop
 loop-less c = search needs
 
 loop-again : tie.Need-loop-again Inv-loop μ-loop
-loop-again c = link-turn (c .before .before .before .before .before .before .before .loop .inv) (c .before .before .before .before .before .before .loop-test .taken) _ _ (c .before .before .before .before .before .offset-of .ensures) (c .before .before .put-word .ensures)
+loop-again c = link-turn (c .before .before .before .before .before .before .before .before .loop .inv) (c .before .before .before .before .before .before .before .loop-test .taken) _ _ (c .before .before .before .before .offset-of .ensures) (c .before .before .put-word .ensures)
 
 mul-put-word-3 : tie.Need-mul-put-word-3 Inv-loop μ-loop
 mul-put-word-3 c = search needs
@@ -90,7 +88,6 @@ link-items-spec =
     add-put-word-2
     add-put-word-3
     put-word-requires
-    add-at
     sub-left
     loop-less
     loop-again

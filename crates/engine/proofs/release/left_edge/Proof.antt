@@ -6,6 +6,9 @@ use Rattle.engine.proofs.release.left_edge.Reads as reads
 use Rattle.engine.proofs.release.left_edge.Lts as lts
 use Rattle.words.proofs.word.Reads as word-reads
 
+mul-word : tie.Need-mul-word
+mul-word c = search needs
+
 sub-word : tie.Need-sub-word
 sub-word c = search needs
 
@@ -13,10 +16,10 @@ word-requires : tie.Need-word-requires
 word-requires c κs = search needs
 
 returns : tie.Need-returns
-returns c = left-touching _ _ _ _ (c .before .if1 .taken) _ (c .word .ensures)
+returns c = left-touching _ _ _ _ _ (c .before .before .if1 .taken) _ (c .word .ensures)
 
 returns-2 : tie.Need-returns-2
-returns-2 c = left-apart _ _ _ _ (c .if1 .left)
+returns-2 c = left-apart (c .before .before .args .w) _ _ _ _ (c .if1 .left)
 
 pub left-edge-spec : {M : Type 1} → statement M
-left-edge-spec = tie.close (tie.spec sub-word word-requires returns returns-2)
+left-edge-spec = tie.close (tie.spec mul-word sub-word word-requires returns returns-2)

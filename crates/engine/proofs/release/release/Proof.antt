@@ -5,14 +5,14 @@ use Rattle.engine.proofs.release.release.Statement.{statement}
 use Rattle.engine.proofs.release.release.Tie as tie
 use Rattle.engine.proofs.release.release.Reads as reads
 use Rattle.engine.proofs.release.release.Lts as lts
-use Rattle.links.proofs.link_at.Reads as link-at-reads
-use Rattle.links.proofs.put_linked.Reads as put-linked-reads
 use Rattle.engine.proofs.release.left_edge.Reads as left-edge-reads
 use Rattle.engine.proofs.release.right_edge.Reads as right-edge-reads
+use Rattle.links.proofs.link_at.Reads as link-at-reads
+use Rattle.links.proofs.put_linked.Reads as put-linked-reads
 use Rattle.words.proofs.word.Reads as word-reads
 
-add-q : tie.Need-add-q
-add-q c = omega (arith, around _ _ (c .before .before .pre))
+add-t8 : tie.Need-add-t8
+add-t8 c = omega (arith, around _ _ (c .before .before .pre))
 
 link-at-requires : tie.Need-link-at-requires
 link-at-requires c κs = omega (arith, around _ _ (c .before .before .before .pre))
@@ -21,7 +21,7 @@ word-requires : tie.Need-word-requires
 word-requires c κs = omega (arith, around _ _ (c .before .before .before .before .pre), c .link-at .ensures)
 
 left-edge-requires : tie.Need-left-edge-requires
-left-edge-requires c κs = record { low = omega (arith, around _ _ (c .before .before .before .before .before .before .pre)); inside = omega (arith, around _ _ (c .before .before .before .before .before .before .pre)) }
+left-edge-requires c κs = record { width = c .before .before .before .before .before .before .pre .width; low = omega (arith, around _ _ (c .before .before .before .before .before .before .pre)); inside = omega (arith, around _ _ (c .before .before .before .before .before .before .pre)) }
 
 right-edge-requires : tie.Need-right-edge-requires
 right-edge-requires c κs = right-room _ _ (c .before .before .before .before .before .before .before .before .pre) _ (rw (c .before .before .before .before .link-at .ensures) at (c .before .before .before .word .ensures))
@@ -39,7 +39,7 @@ pub release-spec : {M : Type 1} → statement M
 release-spec =
     tie.close
     (tie.spec
-    add-q
+    add-t8
     link-at-requires
     word-requires
     left-edge-requires

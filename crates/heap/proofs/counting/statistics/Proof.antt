@@ -1,3 +1,4 @@
+use Rattle.model.proofs.Sizes.{eight}
 use Rattle.heap.proofs.Answering.{tells-refusal, tells-answer}
 use Rattle.heap.proofs.Examining.{ready}
 use Rattle.model.specs.Reading.{counted}
@@ -7,40 +8,32 @@ use Rattle.heap.proofs.counting.statistics.Statement.{statement}
 use Rattle.heap.proofs.counting.statistics.Tie as tie
 use Rattle.heap.proofs.counting.statistics.Reads as reads
 use Rattle.heap.proofs.counting.statistics.Lts as lts
-use Rattle.reading.proofs.counting.count.Reads as count-reads
-use Rattle.reading.proofs.counting.nothing_counted.Reads as nothing-counted-reads
 use Rattle.heap.proofs.examine.Reads as examine-reads
 use Rattle.heap.proofs.refusal_number.Reads as refusal-number-reads
+use Rattle.reading.proofs.counting.count.Reads as count-reads
+use Rattle.reading.proofs.counting.nothing_counted.Reads as nothing-counted-reads
 
--- src/counting.rt:23:9
 examine-requires : tie.Need-examine-requires
 examine-requires c κs = search needs
 
--- src/counting.rt:25:24
 enum-known-v : tie.Need-enum-known-v
 enum-known-v c = search needs
 
--- src/counting.rt:26:17
 refusal-number-requires : tie.Need-refusal-number-requires
 refusal-number-requires c κs = search needs
 
--- src/counting.rt:27:17
 nothing-counted-requires : tie.Need-nothing-counted-requires
 nothing-counted-requires c κs = search needs
 
--- src/counting.rt:34:17
 enum-told : tie.Need-enum-told
 enum-told c = search needs
 
--- src/counting.rt:34:17
 count-requires : tie.Need-count-requires
-count-requires c κs = ready _ _ (c .before .before .examine .ensures) (c .enum-told .given .1) .sound
+count-requires c κs = (eight, ready _ _ (c .before .before .examine .ensures) (c .enum-told .given .1) .sound)
 
--- src/counting.rt:20:1
 returns : tie.Need-returns
 returns c = tells-refusal _ (counted []) (λ L. counted (L .blocks)) _ (c .before .before .before .before .before .examine .ensures) _ (c .before .before .before .v .given .1) _ (c .before .refusal-number .ensures .0) _ (c .nothing-counted .ensures)
 
--- src/counting.rt:20:1
 returns-2 : tie.Need-returns-2
 returns-2 c = tells-answer _ (counted []) (λ L. counted (L .blocks)) _ (c .before .before .before .examine .ensures) (c .before .enum-told .given .1) _ (c .count .ensures)
 

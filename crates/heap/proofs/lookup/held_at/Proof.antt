@@ -1,3 +1,4 @@
+use Rattle.model.proofs.Sizes.{eight}
 use Rattle.heap.proofs.Answering.{held-refused, held-none, held-some}
 use Rattle.heap.proofs.Examining.{ready}
 use borrow.Author.Needs.{needs}
@@ -5,39 +6,31 @@ use Rattle.heap.proofs.lookup.held_at.Statement.{statement}
 use Rattle.heap.proofs.lookup.held_at.Tie as tie
 use Rattle.heap.proofs.lookup.held_at.Reads as reads
 use Rattle.heap.proofs.lookup.held_at.Lts as lts
-use Rattle.reading.proofs.holding.capacity.Reads as capacity-reads
 use Rattle.heap.proofs.examine.Reads as examine-reads
 use Rattle.heap.proofs.refusal_number.Reads as refusal-number-reads
+use Rattle.reading.proofs.holding.capacity.Reads as capacity-reads
 
--- src/lookup.rt:18:9
 examine-requires : tie.Need-examine-requires
 examine-requires c κs = search needs
 
--- src/lookup.rt:20:24
 enum-known-v : tie.Need-enum-known-v
 enum-known-v c = search needs
 
--- src/lookup.rt:21:17
 refusal-number-requires : tie.Need-refusal-number-requires
 refusal-number-requires c κs = search needs
 
--- src/lookup.rt:28:17
 enum-told : tie.Need-enum-told
 enum-told c = search needs
 
--- src/lookup.rt:28:17
 capacity-requires : tie.Need-capacity-requires
-capacity-requires c κs = ready _ _ (c .before .before .examine .ensures) (c .enum-told .given .1) .sound
+capacity-requires c κs = (eight, ready _ _ (c .before .before .examine .ensures) (c .enum-told .given .1) .sound)
 
--- src/lookup.rt:30:17
 returns : tie.Need-returns
 returns c = held-none _ _ _ (c .before .before .before .before .examine .ensures) (c .before .before .enum-told .given .1) _ (c .before .capacity .ensures) (c .if1 .taken)
 
--- src/lookup.rt:15:1
 returns-2 : tie.Need-returns-2
 returns-2 c = held-refused _ _ _ (c .before .before .before .before .examine .ensures) _ (c .before .before .v .given .1) _ (c .refusal-number .ensures .0)
 
--- src/lookup.rt:15:1
 returns-3 : tie.Need-returns-3
 returns-3 c = held-some _ _ _ (c .before .before .before .before .examine .ensures) (c .before .before .enum-told .given .1) _ (c .before .capacity .ensures) (c .if1 .left)
 

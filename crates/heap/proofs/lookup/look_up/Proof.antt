@@ -7,43 +7,33 @@ use Rattle.heap.proofs.lookup.look_up.Reads as reads
 use Rattle.heap.proofs.lookup.look_up.Lts as lts
 use Rattle.heap.proofs.lookup.held_at.Reads as held-at-reads
 
--- src/lookup.rt:48:9
 held-at-requires : tie.Need-held-at-requires
 held-at-requires c κs = search needs
 
--- src/lookup.rt:51:16
 sub-result : tie.Need-sub-result
 sub-result c = search needs
 
--- src/lookup.rt:51:16
 part-result-start : tie.Need-part-result-start
 part-result-start c = search needs
 
--- src/lookup.rt:51:16
 part-result-end : tie.Need-part-result-end
 part-result-end c = search needs
 
--- src/lookup.rt:51:9
 returns : tie.Need-returns
 returns c = record { bytes = part-none _ (c .before .before .held-at .ensures) (c .before .if1 .taken); same = search needs; place = λ z. omega arith }
 
--- src/lookup.rt:53:12
 add-result : tie.Need-add-result
 add-result c = omega (arith, c .before .held-at .ensures .within (c .if1 .left))
 
--- src/lookup.rt:53:5
 sub-result-2 : tie.Need-sub-result-2
 sub-result-2 c = search needs
 
--- src/lookup.rt:53:5
 part-result-start-2 : tie.Need-part-result-start-2
 part-result-start-2 c = search needs
 
--- src/lookup.rt:53:5
 part-result-end-2 : tie.Need-part-result-end-2
 part-result-end-2 c = omega (arith, c .before .held-at .ensures .within (c .if1 .left))
 
--- src/lookup.rt:44:1
 returns-2 : tie.Need-returns-2
 returns-2 c = record { bytes = part-some _ (c .before .before .held-at .ensures); same = search needs; place = λ z. search needs }
 

@@ -7,43 +7,33 @@ use Rattle.heap.proofs.lookup.look_up_mut.Reads as reads
 use Rattle.heap.proofs.lookup.look_up_mut.Lts as lts
 use Rattle.heap.proofs.lookup.held_at.Reads as held-at-reads
 
--- src/lookup.rt:61:9
 held-at-requires : tie.Need-held-at-requires
 held-at-requires c κs = search needs
 
--- src/lookup.rt:64:16
 sub-result : tie.Need-sub-result
 sub-result c = search needs
 
--- src/lookup.rt:64:16
 part-h-start : tie.Need-part-h-start
 part-h-start c = search needs
 
--- src/lookup.rt:64:16
 part-h-end : tie.Need-part-h-end
 part-h-end c = search needs
 
--- src/lookup.rt:64:9
 returns : tie.Need-returns
 returns c = record { bytes = part-none _ (c .before .before .held-at .ensures) (c .before .if1 .taken); same = search needs; place = λ z. omega arith }
 
--- src/lookup.rt:66:16
 add-result : tie.Need-add-result
 add-result c = omega (arith, c .before .held-at .ensures .within (c .if1 .left))
 
--- src/lookup.rt:66:5
 sub-result-2 : tie.Need-sub-result-2
 sub-result-2 c = search needs
 
--- src/lookup.rt:66:5
 part-h-start-2 : tie.Need-part-h-start-2
 part-h-start-2 c = search needs
 
--- src/lookup.rt:66:5
 part-h-end-2 : tie.Need-part-h-end-2
 part-h-end-2 c = omega (arith, c .before .held-at .ensures .within (c .if1 .left))
 
--- src/lookup.rt:57:1
 returns-2 : tie.Need-returns-2
 returns-2 c = record { bytes = part-some _ (c .before .before .held-at .ensures); same = search needs; place = λ z. search needs }
 

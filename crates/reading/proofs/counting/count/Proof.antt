@@ -11,55 +11,49 @@ use Rattle.reading.proofs.counting.count.Statement.{statement}
 use Rattle.reading.proofs.counting.count.Tie as tie
 use Rattle.reading.proofs.counting.count.Reads as reads
 use Rattle.reading.proofs.counting.count.Lts as lts
+use Rattle.model.proofs.start.Reads as start-reads
 use Rattle.reading.proofs.counting.nothing_counted.Reads as nothing-counted-reads
 use Rattle.reading.proofs.counting.with_block.Reads as with-block-reads
 use Rattle.words.proofs.word.Reads as word-reads
 
 abbrev Inv-loop : tie.InvT-loop
-Inv-loop h end s₀ p₀ s p = Going counted h p (told s) × (end ≡ endOf (length h))
+Inv-loop w h end s₀ p₀ s p = Going w counted h (p .0) (told s) × (end ≡ endOf (length h))
 
 abbrev μ-loop : tie.MeasureT-loop
-μ-loop h end s₀ p₀ s p = end - p
+μ-loop w h end s₀ p₀ s p = end - p .0
 
--- src/reading.rt:130:15
 mul-end : tie.Need-mul-end Inv-loop μ-loop
 mul-end c = search needs
 
--- src/reading.rt:131:9
 nothing-counted-requires : tie.Need-nothing-counted-requires Inv-loop μ-loop
 nothing-counted-requires c κs = search needs
 
--- src/reading.rt:133:5
+start-requires : tie.Need-start-requires Inv-loop μ-loop
+start-requires c κs = search needs
+
 loop-holds : tie.Need-loop-holds Inv-loop μ-loop
-loop-holds c = (going-start counted _ (c .before .before .pre) _ (c .nothing-counted .ensures), refl)
+loop-holds c = (going-start counted (c .before .before .before .pre .0) _ _ (c .start .ensures) (c .before .before .before .pre .1) _ (c .before .nothing-counted .ensures), refl)
 
--- src/reading.rt:134:13
 word-requires : tie.Need-word-requires Inv-loop μ-loop
-word-requires c κs = omega (arith, going-inside counted (c .before .loop .inv .0) _ refl (omega arith))
+word-requires c κs = omega (arith, going-inside counted (c .before .before .loop .inv .0) _ refl (omega arith))
 
--- src/reading.rt:135:9
 with-block-requires : tie.Need-with-block-requires Inv-loop μ-loop
-with-block-requires c κs = (c .before .before .loop .inv .0, c .word .ensures, omega arith)
+with-block-requires c κs = (c .before .before .before .loop .inv .0, c .word .ensures, omega arith)
 
--- src/reading.rt:136:14
-mul-p : tie.Need-mul-p Inv-loop μ-loop
-mul-p c = search needs
+mul-t11 : tie.Need-mul-t11 Inv-loop μ-loop
+mul-t11 c = search needs
 
--- src/reading.rt:136:9
-add-p : tie.Need-add-p Inv-loop μ-loop
-add-p c = omega (arith, going-inside counted (c .before .before .before .loop .inv .0) _ (c .before .word .ensures) (omega arith))
+add-t12 : tie.Need-add-t12 Inv-loop μ-loop
+add-t12 c = omega (arith, going-inside counted (c .before .before .before .before .before .loop .inv .0) _ (c .before .before .word .ensures) (omega arith))
 
--- src/reading.rt:133:5
 loop-less : tie.Need-loop-less Inv-loop μ-loop
-loop-less c = omega (arith, going-inside counted (c .before .before .before .loop .inv .0) _ (c .before .word .ensures) (omega arith))
+loop-less c = omega (arith, going-inside counted (c .before .before .before .before .before .loop .inv .0) _ (c .before .before .word .ensures) (omega arith))
 
--- src/reading.rt:133:5
 loop-again : tie.Need-loop-again Inv-loop μ-loop
-loop-again c = (c .with-block .ensures, omega arith)
+loop-again c = (c .before .with-block .ensures, omega arith)
 
--- src/reading.rt:126:1
 returns : tie.Need-returns Inv-loop μ-loop
-returns c = going-done counted (c .before .loop .inv .0) (omega arith)
+returns c = going-done counted (c .before .before .loop .inv .0) (omega arith)
 
 pub count-spec : {M : Type 1} → statement M
 count-spec =
@@ -69,11 +63,12 @@ count-spec =
     μ-loop
     mul-end
     nothing-counted-requires
+    start-requires
     loop-holds
     word-requires
     with-block-requires
-    mul-p
-    add-p
+    mul-t11
+    add-t12
     loop-less
     loop-again
     returns)

@@ -5,7 +5,6 @@ use Rattle.reading.proofs.counting.nothing_counted.Tie as tie
 use Rattle.reading.proofs.counting.nothing_counted.Reads as reads
 use Rattle.reading.proofs.counting.nothing_counted.Lts as lts
 
--- src/reading.rt:90:1
 returns : tie.Need-returns
 unfolding counted total greatest
 returns c = refl

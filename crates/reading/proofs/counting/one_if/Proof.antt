@@ -4,11 +4,9 @@ use Rattle.reading.proofs.counting.one_if.Tie as tie
 use Rattle.reading.proofs.counting.one_if.Reads as reads
 use Rattle.reading.proofs.counting.one_if.Lts as lts
 
--- src/reading.rt:41:9
 returns : tie.Need-returns
 returns c = rw (eq-eqb _ _ (c .if1 .taken))
 
--- src/reading.rt:37:1
 returns-2 : tie.Need-returns-2
 returns-2 c = rw (ne-eqb _ _ (c .if1 .left))
 

@@ -10,51 +10,39 @@ use Rattle.reading.proofs.counting.with_block.Lts as lts
 use Rattle.reading.proofs.counting.larger.Reads as larger-reads
 use Rattle.reading.proofs.counting.page_at.Reads as page-at-reads
 
--- src/reading.rt:110:26
 mul-r : tie.Need-mul-r
 mul-r c = search needs
 
--- src/reading.rt:110:9
 add-r : tie.Need-add-r
 add-r c = omega (arith, count-small (c .before .before .before .pre .0), going-inside counted (c .before .before .before .pre .0) _ (c .before .before .before .pre .1) (c .before .before .before .pre .2))
 
--- src/reading.rt:111:9
 add-r-2 : tie.Need-add-r-2
 add-r-2 c = omega (arith, count-small (c .before .before .before .before .pre .0), going-inside counted (c .before .before .before .before .pre .0) _ (c .before .before .before .before .pre .1) (c .before .before .before .before .pre .2))
 
--- src/reading.rt:112:50
 mul-larger : tie.Need-mul-larger
 mul-larger c = search needs
 
--- src/reading.rt:112:9
 larger-requires : tie.Need-larger-requires
 larger-requires c κs = search needs
 
--- src/reading.rt:113:9
 returns : tie.Need-returns
 returns c = count-free (c .before .before .before .before .before .pre .0) _ (c .before .before .before .before .before .pre .1) (c .before .before .before .before .before .pre .2) (c .before .before .before .if1 .taken) _ (c .larger .ensures)
 
--- src/reading.rt:116:9
 add-r-3 : tie.Need-add-r-3
 add-r-3 c = omega (arith, count-small (c .before .before .before .before .pre .0), going-inside counted (c .before .before .before .before .pre .0) _ (c .before .before .before .before .pre .1) (c .before .before .before .before .pre .2))
 
--- src/reading.rt:117:9
 returns-2 : tie.Need-returns-2
 returns-2 c = count-variable (c .before .before .before .before .pre .0) _ (c .before .before .before .before .pre .1) (c .before .before .before .before .pre .2) (c .before .if2 .taken)
 
--- src/reading.rt:119:9
 page-at-requires : tie.Need-page-at-requires
 page-at-requires c κs = going-at-page counted (c .before .before .before .pre .0) _ (c .before .before .before .pre .1) (c .before .before .before .pre .2) (c .before .if1 .left) (c .if2 .left)
 
--- src/reading.rt:120:5
 add-r-4 : tie.Need-add-r-4
 add-r-4 c = omega (arith, count-small (c .before .before .before .before .before .pre .0), going-inside counted (c .before .before .before .before .before .pre .0) _ (c .before .before .before .before .before .pre .1) (c .before .before .before .before .before .pre .2))
 
--- src/reading.rt:121:5
 add-r-5 : tie.Need-add-r-5
 add-r-5 c = omega (arith, count-small (c .before .before .before .before .before .before .before .pre .0), going-inside counted (c .before .before .before .before .before .before .before .pre .0) _ (c .before .before .before .before .before .before .before .pre .1) (c .before .before .before .before .before .before .before .pre .2), page-small (going-at-page counted (c .before .before .before .before .before .before .before .pre .0) _ (c .before .before .before .before .before .before .before .pre .1) (c .before .before .before .before .before .before .before .pre .2) (c .before .before .before .before .before .if1 .left) (c .before .before .before .before .if2 .left)) _ (c .before .before .before .page-at .ensures))
 
--- src/reading.rt:104:1
 returns-3 : tie.Need-returns-3
 returns-3 c = count-page (c .before .before .before .before .before .before .before .pre .0) _ (c .before .before .before .before .before .before .before .pre .1) (c .before .before .before .before .before .before .before .pre .2) (c .before .before .before .before .before .if1 .left) (c .before .before .before .before .if2 .left) _ (c .before .before .before .page-at .ensures)
 

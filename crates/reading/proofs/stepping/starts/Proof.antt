@@ -10,49 +10,44 @@ use Rattle.reading.proofs.stepping.starts.Statement.{statement}
 use Rattle.reading.proofs.stepping.starts.Tie as tie
 use Rattle.reading.proofs.stepping.starts.Reads as reads
 use Rattle.reading.proofs.stepping.starts.Lts as lts
+use Rattle.model.proofs.start.Reads as start-reads
 use Rattle.words.proofs.word.Reads as word-reads
 
 abbrev Inv-loop : tie.InvT-loop
-Inv-loop h w p₀ p = Towards h w p × (w < endOf (length h))
+Inv-loop w h at p₀ p = Towards w h (at .0) (p .0) × (at .0 < endOf (length h))
 
 abbrev μ-loop : tie.MeasureT-loop
-μ-loop h w p₀ p = w - p
+μ-loop w h at p₀ p = at .0 - p .0
 
--- src/stepping.rt:32:8
 mul-if1 : tie.Need-mul-if1 Inv-loop μ-loop
 mul-if1 c = search needs
 
--- src/stepping.rt:33:9
 returns : tie.Need-returns Inv-loop μ-loop
-returns c = start-none _ _ (omega arith)
+returns c = start-none (c .before .before .before .pre .0) _ _ (omega arith)
 
--- src/stepping.rt:36:5
+start-requires : tie.Need-start-requires Inv-loop μ-loop
+start-requires c κs = search needs
+
 loop-holds : tie.Need-loop-holds Inv-loop μ-loop
-loop-holds c = (toward-start _ _ (c .before .before .pre), omega arith)
+loop-holds c = (toward-start (c .before .before .before .before .pre .0) _ _ _ (c .start .ensures) (c .before .before .before .before .pre .1), omega arith)
 
--- src/stepping.rt:37:13
 word-requires : tie.Need-word-requires Inv-loop μ-loop
-word-requires c κs = omega (arith, toward-inside (c .before .loop .inv .0) _ refl (omega arith))
+word-requires c κs = omega (arith, toward-inside (c .before .before .before .loop .inv .0) _ refl (omega arith))
 
--- src/stepping.rt:38:14
-mul-p : tie.Need-mul-p Inv-loop μ-loop
-mul-p c = search needs
+mul-t12 : tie.Need-mul-t12 Inv-loop μ-loop
+mul-t12 c = search needs
 
--- src/stepping.rt:38:9
-add-p : tie.Need-add-p Inv-loop μ-loop
-add-p c = omega (arith, toward-inside (c .before .before .loop .inv .0) _ (c .word .ensures) (omega arith))
+add-t13 : tie.Need-add-t13 Inv-loop μ-loop
+add-t13 c = omega (arith, toward-inside (c .before .before .before .before .before .loop .inv .0) _ (c .before .word .ensures) (omega arith))
 
--- src/stepping.rt:36:5
 loop-less : tie.Need-loop-less Inv-loop μ-loop
-loop-less c = omega (arith, toward-inside (c .before .before .loop .inv .0) _ (c .word .ensures) (omega arith))
+loop-less c = omega (arith, toward-inside (c .before .before .before .before .before .loop .inv .0) _ (c .before .word .ensures) (omega arith))
 
--- src/stepping.rt:36:5
 loop-again : tie.Need-loop-again Inv-loop μ-loop
-loop-again c = (toward-on (c .before .before .loop .inv .0) _ (c .word .ensures) (omega arith) (omega arith), omega arith)
+loop-again c = (toward-on (c .before .before .before .before .before .loop .inv .0) _ (c .before .word .ensures) (omega arith) (omega arith), omega arith)
 
--- src/stepping.rt:28:1
 returns-2 : tie.Need-returns-2 Inv-loop μ-loop
-returns-2 c = start-told (c .before .loop .inv .0) (omega arith) (c .before .loop .inv .1)
+returns-2 c = start-told (c .before .before .before .before .before .loop .inv .0) (omega arith) (c .before .before .before .before .before .loop .inv .1)
 
 pub starts-spec : {M : Type 1} → statement M
 starts-spec =
@@ -62,10 +57,11 @@ starts-spec =
     μ-loop
     mul-if1
     returns
+    start-requires
     loop-holds
     word-requires
-    mul-p
-    add-p
+    mul-t12
+    add-t13
     loop-less
     loop-again
     returns-2)

@@ -8,39 +8,30 @@ use Rattle.engine.proofs.allocate.allocate.Reads as allocate-reads
 use Rattle.resizing.proofs.carry.smaller.Reads as smaller-reads
 use Rattle.words.proofs.bytes.copy.Reads as copy-reads
 
--- src/carry.rt:23:9
 allocate-requires : tie.Need-allocate-requires
 allocate-requires c κs = search needs
 
--- src/carry.rt:25:26
 enum-told : tie.Need-enum-told
 enum-told c = search needs
 
--- src/carry.rt:26:19
 enum-known-t : tie.Need-enum-known-t
 enum-known-t c = search needs
 
--- src/carry.rt:27:31
 smaller-requires : tie.Need-smaller-requires
 smaller-requires c κs = search needs
 
--- src/carry.rt:27:13
 copy-requires : tie.Need-copy-requires
 copy-requires c κs = room-to-copy (c .before .before .before .before .before .before .before .before .before .before .pre .0) (c .before .before .before .before .before .before .before .before .before .before .pre .1) (c .before .before .before .before .before .before .before .allocate .ensures) _ (c .before .before .before .t .given .1) _ _ (search needs) (c .smaller .ensures)
 
--- src/carry.rt:18:1
 same-length : tie.Need-same-length
 same-length c = search needs
 
--- src/carry.rt:18:1
 returns : tie.Need-returns
 returns c = not-carried (c .before .before .before .before .before .before .before .pre .0) (c .before .before .before .before .before .before .before .pre .1) (c .before .before .before .before .allocate .ensures) (c .enum-told .given .1)
 
--- src/carry.rt:18:1
 same-length-2 : tie.Need-same-length-2
 same-length-2 c = search needs
 
--- src/carry.rt:18:1
 returns-2 : tie.Need-returns-2
 returns-2 c = was-carried (c .before .before .before .before .before .before .before .before .before .before .before .before .before .pre .0) (c .before .before .before .before .before .before .before .before .before .before .before .before .before .pre .1) (c .before .before .before .before .before .before .before .before .before .before .allocate .ensures) _ (c .before .before .before .before .before .before .t .given .1) (search needs) _ (c .before .before .before .smaller .ensures) _ (c .before .before .copy .ensures)
 

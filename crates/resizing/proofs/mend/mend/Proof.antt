@@ -7,35 +7,27 @@ use Rattle.resizing.proofs.mend.mend.Reads as reads
 use Rattle.resizing.proofs.mend.mend.Lts as lts
 use Rattle.words.proofs.word.Reads as word-reads
 
--- src/mend.rt:14:9
 returns : tie.Need-returns
 returns c = none-taken (c .before .before .pre) (c .if1 .taken)
 
--- src/mend.rt:16:9
 word-requires : tie.Need-word-requires
 word-requires c κs = omega (arith, prev-room (c .before .before .pre) (c .if1 .left))
 
--- src/mend.rt:18:9
 returns-2 : tie.Need-returns-2
 returns-2 c = still-free (c .before .before .before .before .pre) (c .before .before .if1 .left) _ (c .before .word .ensures) (c .if2 .taken)
 
--- src/mend.rt:20:20
 mul-q : tie.Need-mul-q
 mul-q c = search needs
 
--- src/mend.rt:20:13
 add-q : tie.Need-add-q
 add-q c = omega (arith, behind-room (c .before .before .before .before .pre) (c .before .before .if1 .left) _ (c .before .word .ensures) (c .if2 .left))
 
--- src/mend.rt:24:8
 word-requires-2 : tie.Need-word-requires-2
-word-requires-2 c κs = behind-room (c .before .before .before .before .before .pre) (c .before .before .before .if1 .left) _ (c .before .before .word .ensures) (c .before .if2 .left)
+word-requires-2 c κs = (c .before .before .before .before .before .pre .width, behind-room (c .before .before .before .before .before .pre) (c .before .before .before .if1 .left) _ (c .before .before .word .ensures) (c .before .if2 .left))
 
--- src/mend.rt:25:9
 returns-3 : tie.Need-returns-3
 returns-3 c = rest-free (c .before .before .before .before .before .before .before .pre) (c .before .before .before .before .before .if1 .left) _ (c .before .before .before .before .word .ensures) (c .before .before .before .if2 .left) _ (c .before .word2 .ensures) (c .if3 .taken)
 
--- src/mend.rt:8:1
 returns-4 : tie.Need-returns-4
 returns-4 c = none-free (c .before .before .before .before .before .before .before .pre) (c .before .before .before .before .before .if1 .left) _ (c .before .before .before .before .word .ensures) (c .before .before .before .if2 .left) _ (c .before .word2 .ensures) (c .if3 .left)
 

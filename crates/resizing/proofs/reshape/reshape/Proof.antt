@@ -1,4 +1,5 @@
 use Rattle.resizing.proofs.ReshapeLaws.{must-move, stays-so, room-for, resizes}
+use Rattle.model.proofs.Sizes.{most-bound}
 use native.Mathlib.Omega.{arith}
 use mathlib.Core.Logic.{⊎-elim}
 use mathlib.Core.Path.{refl}
@@ -10,54 +11,45 @@ use Rattle.resizing.proofs.reshape.reshape.Lts as lts
 use Rattle.engine.proofs.blocks.put_high.Reads as put-high-reads
 use Rattle.engine.proofs.blocks.put_low.Reads as put-low-reads
 use Rattle.engine.proofs.blocks.taken.Reads as taken-reads
-use Rattle.resizing.proofs.reshape.reach.Reads as reach-reads
 use Rattle.model.proofs.need_of.Reads as need-of-reads
+use Rattle.resizing.proofs.reshape.reach.Reads as reach-reads
 
--- src/reshape.rt:42:9
 need-of-requires : tie.Need-need-of-requires
-need-of-requires c κs = search needs
+need-of-requires c κs = (c .before .pre .0 .width, omega (arith, c .before .pre .1 .most, most-bound (c .before .pre .0 .width)))
 
--- src/reshape.rt:43:9
 reach-requires : tie.Need-reach-requires
 reach-requires c κs = search needs
 
--- src/reshape.rt:45:9
 same-length : tie.Need-same-length
 same-length c = search needs
 
--- src/reshape.rt:45:9
 returns : tie.Need-returns
 returns c = must-move _ _ (c .before .before .before .before .before .before .pre .0) _ (c .before .before .reach .ensures) _ _ (c .before .before .before .before .before .before .pre .1) (c .before .before .before .before .need-of .ensures) (c .if1 .taken)
 
--- src/reshape.rt:48:21
-add-if3 : tie.Need-add-if3
-add-if3 c = search needs
+mul-if3 : tie.Need-mul-if3
+mul-if3 c = search needs
 
--- src/reshape.rt:49:13
+add-if3 : tie.Need-add-if3
+add-if3 c = omega (arith, c .before .before .before .before .before .before .need-of .ensures, c .before .before .before .before .before .before .before .before .pre .1 .most, most-bound (c .before .before .before .before .before .before .before .before .pre .0 .width))
+
 same-length-2 : tie.Need-same-length-2
 same-length-2 c = search needs
 
--- src/reshape.rt:49:13
 returns-2 : tie.Need-returns-2
 returns-2 c = stays-so _ _ (c .before .before .before .before .before .before .before .before .before .before .pre .0) _ (c .before .before .before .before .before .before .reach .ensures) _ _ (c .before .before .before .before .before .before .before .before .before .before .pre .1) (c .before .before .before .before .before .before .before .before .need-of .ensures) (c .before .before .if2 .taken) (c .if3 .taken) (λ i. c .before .before .before .before .before .before .before .before .before .slice-known .given i .fits)
 
--- src/reshape.rt:52:9
 taken-requires : tie.Need-taken-requires
-taken-requires c κs = search needs
+taken-requires c κs = (c .before .before .before .before .before .before .before .before .pre .0 .width, omega (arith, c .before .before .before .before .before .before .need-of .ensures, c .before .before .before .before .before .before .before .before .pre .1 .most, most-bound (c .before .before .before .before .before .before .before .before .pre .0 .width)))
 
--- src/reshape.rt:53:5
 put-low-requires : tie.Need-put-low-requires
 put-low-requires c κs = room-for _ _ (c .before .before .before .before .before .before .before .before .before .before .pre .0) _ (c .before .before .before .before .before .before .reach .ensures) _ _ (c .before .before .before .before .before .before .before .before .before .before .pre .1) (c .before .before .before .before .before .before .before .before .need-of .ensures) (c .before .before .before .before .if1 .left) _ _ (c .before .taken .ensures) refl
 
--- src/reshape.rt:54:5
 put-high-requires : tie.Need-put-high-requires
 put-high-requires c κs = room-for _ _ (c .before .before .before .before .before .before .before .before .before .before .before .before .before .before .pre .0) _ (c .before .before .before .before .before .before .before .before .before .before .reach .ensures) _ _ (c .before .before .before .before .before .before .before .before .before .before .before .before .before .before .pre .1) (c .before .before .before .before .before .before .before .before .before .before .before .before .need-of .ensures) (c .before .before .before .before .before .before .before .before .if1 .left) _ _ (c .before .before .before .before .before .taken .ensures) (search needs)
 
--- src/reshape.rt:37:1
 same-length-3 : tie.Need-same-length-3
 same-length-3 c = search needs
 
--- src/reshape.rt:37:1
 returns-3 : tie.Need-returns-3
 returns-3 c = resizes _ _ (c .before .before .before .before .before .before .before .before .before .before .before .before .before .before .before .before .before .pre .0) _ (c .before .before .before .before .before .before .before .before .before .before .before .before .before .reach .ensures) _ _ (c .before .before .before .before .before .before .before .before .before .before .before .before .before .before .before .before .before .pre .1) (c .before .before .before .before .before .before .before .before .before .before .before .before .before .before .before .need-of .ensures) (c .before .before .before .before .before .before .before .before .before .before .before .if1 .left) (λ z. ⊎-elim (λ w. omega arith) (λ w. omega arith) (c .before .before .before .before .before .before .before .before .before .if2 .came)) (λ i. c .before .before .before .before .before .before .before .before .before .before .before .before .before .before .before .before .slice-known .given i .fits) _ (c .before .before .before .before .before .before .before .before .taken .ensures) _ _ (c .before .before .before .before .before .before .put-low .ensures) (c .before .before .put-high .ensures)
 
@@ -69,6 +61,7 @@ reshape-spec =
     reach-requires
     same-length
     returns
+    mul-if3
     add-if3
     same-length-2
     returns-2

@@ -7,57 +7,48 @@ use Rattle.resizing.proofs.resize.move_block.Statement.{statement}
 use Rattle.resizing.proofs.resize.move_block.Tie as tie
 use Rattle.resizing.proofs.resize.move_block.Reads as reads
 use Rattle.resizing.proofs.resize.move_block.Lts as lts
-use Rattle.resizing.proofs.carry.carry.Reads as carry-reads
-use Rattle.links.proofs.back_at.Reads as back-at-reads
-use Rattle.resizing.proofs.mend.mend.Reads as mend-reads
 use Rattle.engine.proofs.release.release.Reads as release-reads
+use Rattle.links.proofs.back_at.Reads as back-at-reads
+use Rattle.resizing.proofs.carry.carry.Reads as carry-reads
+use Rattle.resizing.proofs.mend.mend.Reads as mend-reads
 use Rattle.words.proofs.word.Reads as word-reads
 
--- src/resize.rt:52:26
 back-at-requires : tie.Need-back-at-requires
 back-at-requires c κs = prev-back (c .before .before .pre .0)
 
--- src/resize.rt:52:9
 word-requires : tie.Need-word-requires
-word-requires c κs = back-room (c .before .before .before .pre .0) _ (c .back-at .ensures)
+word-requires c κs = (c .before .before .before .pre .0 .ready .width, back-room (c .before .before .before .pre .0) _ (c .back-at .ensures))
 
--- src/resize.rt:53:25
+mul-carry : tie.Need-mul-carry
+mul-carry c = search needs
+
 sub-carry : tie.Need-sub-carry
 sub-carry c = omega (arith, block-large (c .before .before .before .before .before .before .pre .0))
 
--- src/resize.rt:53:9
 carry-requires : tie.Need-carry-requires
 carry-requires c κs = (block-holds (c .before .before .before .before .before .before .pre .0), c .before .before .before .before .before .before .pre .1)
 
--- src/resize.rt:55:26
 enum-told : tie.Need-enum-told
 enum-told c = search needs
 
--- src/resize.rt:56:19
 enum-known-t : tie.Need-enum-known-t
 enum-known-t c = search needs
 
--- src/resize.rt:57:17
 mend-requires : tie.Need-mend-requires
 mend-requires c κs = mendable (c .before .before .before .before .before .before .before .before .before .before .before .before .before .pre .0) (c .before .before .before .before .before .before .carry .ensures) (c .before .before .before .before .before .before .before .before .before .before .before .before .before .pre .1) _ (c .before .before .t .given .1) _ _ (c .before .before .before .before .before .before .before .before .before .before .back-at .ensures) (c .before .before .before .before .before .before .before .before .before .word .ensures)
 
--- src/resize.rt:58:13
 release-requires : tie.Need-release-requires
 release-requires c κs = found-again (c .before .before .before .before .before .before .before .before .before .before .before .before .before .before .before .pre .0) (c .before .before .before .before .before .before .before .before .carry .ensures) (c .before .before .before .before .before .before .before .before .before .before .before .before .before .before .before .pre .1) _ (c .before .before .before .before .t .given .1) _ _ (c .before .before .before .before .before .before .before .before .before .before .before .before .back-at .ensures) (c .before .before .before .before .before .before .before .before .before .before .before .word .ensures) (c .before .mend .ensures) (search needs)
 
--- src/resize.rt:47:1
 same-length : tie.Need-same-length
 same-length c = search needs
 
--- src/resize.rt:47:1
 returns : tie.Need-returns
 returns c = moved-nowhere (c .before .before .before .before .carry .ensures) (c .enum-told .given .1)
 
--- src/resize.rt:47:1
 same-length-2 : tie.Need-same-length-2
 same-length-2 c = search needs
 
--- src/resize.rt:47:1
 returns-2 : tie.Need-returns-2
 returns-2 c = given-back (c .before .before .before .before .before .before .before .before .before .before .before .before .before .before .before .before .before .before .pre .0) (c .before .before .before .before .before .before .before .before .before .before .before .carry .ensures) (c .before .before .before .before .before .before .before .before .before .before .before .before .before .before .before .before .before .before .pre .1) _ (c .before .before .before .before .before .before .before .t .given .1) _ _ (c .before .before .before .before .before .before .before .before .before .before .before .before .before .before .before .back-at .ensures) (c .before .before .before .before .before .before .before .before .before .before .before .before .before .before .word .ensures) (c .before .before .before .before .mend .ensures) _ (c .before .before .release .ensures)
 
@@ -67,6 +58,7 @@ move-block-spec =
     (tie.spec
     back-at-requires
     word-requires
+    mul-carry
     sub-carry
     carry-requires
     enum-told

@@ -8,51 +8,39 @@ use Rattle.find.proofs.find.Reads as find-reads
 use Rattle.resizing.proofs.resize.resize_block.Reads as resize-block-reads
 use Rattle.resizing.proofs.resize.resize_item.Reads as resize-item-reads
 
--- src/resize.rt:80:9
 find-requires : tie.Need-find-requires
 find-requires c κs = search needs
 
--- src/resize.rt:82:26
 enum-told : tie.Need-enum-told
 enum-told c = search needs
 
--- src/resize.rt:83:20
 enum-known-x : tie.Need-enum-known-x
 enum-known-x c = search needs
 
--- src/resize.rt:83:29
 resize-item-requires : tie.Need-resize-item-requires
 resize-item-requires c κs = (item-at _ _ (c .before .before .before .before .before .before .before .pre .0) _ (c .before .before .before .before .find .ensures) _ _ (c .before .before .x .given .1), c .before .before .before .before .before .before .before .pre .1)
 
--- src/resize.rt:84:24
 enum-known-x-2 : tie.Need-enum-known-x-2
 enum-known-x-2 c = search needs
 
--- src/resize.rt:84:30
 resize-block-requires : tie.Need-resize-block-requires
 resize-block-requires c κs = (block-at _ _ (c .before .before .before .before .before .before .before .pre .0) _ (c .before .before .before .before .find .ensures) _ (c .before .before .x2 .given .1), c .before .before .before .before .before .before .before .pre .1)
 
--- src/resize.rt:75:1
 same-length : tie.Need-same-length
 same-length c = search needs
 
--- src/resize.rt:75:1
 returns : tie.Need-returns
 returns c = nothing-live _ _ (c .before .before .before .before .before .pre .0) _ (c .before .before .find .ensures) (c .enum-told .given .1)
 
--- src/resize.rt:75:1
 same-length-2 : tie.Need-same-length-2
 same-length-2 c = search needs
 
--- src/resize.rt:75:1
 returns-2 : tie.Need-returns-2
 returns-2 c = search needs
 
--- src/resize.rt:75:1
 same-length-3 : tie.Need-same-length-3
 same-length-3 c = search needs
 
--- src/resize.rt:75:1
 returns-3 : tie.Need-returns-3
 returns-3 c = search needs
 

@@ -8,39 +8,33 @@ use Rattle.resizing.proofs.resize.resize_block.Lts as lts
 use Rattle.resizing.proofs.reshape.reshape.Reads as reshape-reads
 use Rattle.resizing.proofs.resize.move_block.Reads as move-block-reads
 
--- src/resize.rt:66:9
+mul-if1 : tie.Need-mul-if1
+mul-if1 c = search needs
+
 move-block-requires : tie.Need-move-block-requires
 move-block-requires c κs = search needs
 
--- src/resize.rt:66:9
 same-length : tie.Need-same-length
 same-length c = search needs
 
--- src/resize.rt:66:9
 returns : tie.Need-returns
-returns c = small-goes (c .before .before .before .before .before .before .pre .0) (c .before .before .before .before .if1 .taken) _ _ (c .before .before .move-block .ensures)
+returns c = small-goes (c .before .before .before .before .before .before .pre .0) (omega (arith, c .before .before .before .before .if1 .taken)) _ _ (c .before .before .move-block .ensures)
 
--- src/resize.rt:68:8
 reshape-requires : tie.Need-reshape-requires
 reshape-requires c κs = (block-there (c .before .before .before .pre .0), record { above = omega arith; most = c .before .before .before .pre .1 .most })
 
--- src/resize.rt:69:9
 same-length-2 : tie.Need-same-length-2
 same-length-2 c = search needs
 
--- src/resize.rt:69:9
 returns-2 : tie.Need-returns-2
 returns-2 c = reshaped-there (c .before .before .before .before .before .before .before .pre .0) (c .before .before .before .reshape .ensures) (c .if2 .taken)
 
--- src/resize.rt:71:5
 move-block-requires-2 : tie.Need-move-block-requires-2
 move-block-requires-2 c κs = (still-there (c .before .before .before .before .before .before .before .before .pre .0) (c .before .before .before .before .reshape .ensures) (c .before .if2 .left), c .before .before .before .before .before .before .before .before .pre .1)
 
--- src/resize.rt:60:1
 same-length-3 : tie.Need-same-length-3
 same-length-3 c = search needs
 
--- src/resize.rt:60:1
 returns-3 : tie.Need-returns-3
 returns-3 c = large-goes (c .before .before .before .before .before .before .before .before .before .before .before .pre .0) (c .before .before .before .before .before .before .before .reshape .ensures) (c .before .before .before .before .if2 .left) _ _ (c .before .before .move-block2 .ensures)
 
@@ -48,6 +42,7 @@ pub resize-block-spec : {M : Type 1} → statement M
 resize-block-spec =
     tie.close
     (tie.spec
+    mul-if1
     move-block-requires
     same-length
     returns

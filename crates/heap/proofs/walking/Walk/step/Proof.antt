@@ -1,3 +1,4 @@
+use Rattle.model.proofs.Sizes.{eight}
 use Rattle.heap.proofs.Answering.{tells-refusal, tells-answer, stays-there}
 use Rattle.heap.proofs.Examining.{ready}
 use Rattle.model.specs.Reading.{ended, step}
@@ -7,44 +8,35 @@ use Rattle.heap.proofs.walking.Walk.step.Statement.{statement}
 use Rattle.heap.proofs.walking.Walk.step.Tie as tie
 use Rattle.heap.proofs.walking.Walk.step.Reads as reads
 use Rattle.heap.proofs.walking.Walk.step.Lts as lts
-use Rattle.reading.proofs.stepping.meet.Reads as meet-reads
-use Rattle.reading.proofs.stepping.no_block.Reads as no-block-reads
 use Rattle.heap.proofs.examine.Reads as examine-reads
 use Rattle.heap.proofs.refusal_number.Reads as refusal-number-reads
+use Rattle.reading.proofs.stepping.meet.Reads as meet-reads
+use Rattle.reading.proofs.stepping.no_block.Reads as no-block-reads
 
--- src/walking.rt:43:13
 examine-requires : tie.Need-examine-requires
 examine-requires c κs = search needs
 
--- src/walking.rt:45:28
 enum-known-v : tie.Need-enum-known-v
 enum-known-v c = search needs
 
--- src/walking.rt:46:21
 refusal-number-requires : tie.Need-refusal-number-requires
 refusal-number-requires c κs = search needs
 
--- src/walking.rt:47:21
 no-block-requires : tie.Need-no-block-requires
 no-block-requires c κs = search needs
 
--- src/walking.rt:55:21
 enum-told : tie.Need-enum-told
 enum-told c = search needs
 
--- src/walking.rt:55:21
 meet-requires : tie.Need-meet-requires
-meet-requires c κs = ready _ _ (c .before .before .examine .ensures) (c .enum-told .given .1) .sound
+meet-requires c κs = (eight, ready _ _ (c .before .before .examine .ensures) (c .enum-told .given .1) .sound)
 
--- src/walking.rt:56:28
 add-next : tie.Need-add-next
 add-next c = search needs
 
--- src/walking.rt:38:5
 returns : tie.Need-returns
-returns c = tells-refusal _ (ended wide _) (λ L. step wide _ L) _ (c .before .before .before .before .before .examine .ensures) _ (c .before .before .before .v .given .1) _ (c .before .refusal-number .ensures .0) _ (stays-there _ (c .no-block .result) (c .no-block .ensures .1 _))
+returns c = tells-refusal _ (ended wide _) (λ L. step wide _ L) _ (c .before .before .before .before .before .examine .ensures) _ (c .before .before .before .v .given .1) _ (c .before .refusal-number .ensures .0) _ (stays-there _ (c .no-block .result) (c .no-block .ensures .1 8 _))
 
--- src/walking.rt:38:5
 returns-2 : tie.Need-returns-2
 returns-2 c = tells-answer _ (ended wide _) (λ L. step wide _ L) _ (c .before .before .before .before .examine .ensures) (c .before .before .enum-told .given .1) _ (c .before .meet .ensures .answer)
 
