@@ -11,23 +11,25 @@ use Rattle.words.specs.Width.{Width}
 use Rattle.words.specs.Word.{wordAt}
 use Rattle.words.proofs.WordLaws.{Bytes}
 use Rattle.model.specs.declared.Address.{Address}
-use Rattle.model.specs.Shape.{shape, endOf, classOf, needOf, pageNeed, index, start, largest}
+use Rattle.model.specs.Shape.{shape, endOf, classOf, needOf, pageNeed, index, start, largestItem}
 use Rattle.model.specs.Picture.{draw}
 use Rattle.model.specs.Layout.{Layout, headOf, words}
 use Rattle.model.specs.Sound.{Here}
 use Rattle.model.specs.Rules.{Spot, fit, popped, paged, fromList, fromPage, anItem, aBlock, allocate, spotAt}
 use Rattle.model.specs.Calls.{drawn}
-use Rattle.model.proofs.Pictures.{length-draw}
-use Rattle.model.proofs.Blocks.{le-ends}
-use Rattle.model.proofs.FreeWalk.{foundAt, here-room}
-use Rattle.model.proofs.Shown.{head-read}
-use Rattle.model.proofs.Spots.{SpotIn, Spotted, found-spot, found-none}
-use Rattle.model.proofs.Placed.{placed-here}
-use Rattle.model.proofs.Heads.{empty-list}
-use Rattle.model.proofs.PageWords.{first-offset}
-use Rattle.model.proofs.Paged.{paged-here}
-use Rattle.model.proofs.Pop.{popped-here, popped-over}
-use Rattle.model.proofs.PopReads.{first-item}
+use Rattle.model.proofs.Good.{shape-good}
+use Rattle.model.proofs.pictures.Pictures.{length-draw}
+use Rattle.model.proofs.blocks.Blocks.{le-ends}
+use Rattle.model.proofs.blocks.FreeWalk.{here-room}
+use Rattle.model.specs.inner.Walks.{foundAt, SpotIn, Spotted}
+use Rattle.model.proofs.pictures.Shown.{head-read}
+use Rattle.model.proofs.blocks.Spots.{found-spot, found-none}
+use Rattle.model.proofs.blocks.Placed.{placed-here}
+use Rattle.model.proofs.pictures.Heads.{empty-list}
+use Rattle.model.proofs.items.PageWords.{first-offset}
+use Rattle.model.proofs.items.Paged.{paged-here}
+use Rattle.model.proofs.items.Pop.{popped-here, popped-over}
+use Rattle.model.proofs.items.PopReads.{first-item}
 use Rattle.engine.specs.declared.allocate.Taken.{Taken}
 use Rattle.engine.specs.declared.allocate.Taken.the-variants.{At, NoRoom}
 use Rattle.engine.specs.Blocks.{Needed, Placed}
@@ -70,7 +72,7 @@ module _ {w : ℕ} {b : List ℕ} (k : Ready w b) where
             (record {
               answer = ap (λ (y : ℕ). At (record { 0 = y })) (omega (arith, e, x .at));
               bytes = d .draws L (s .0) x;
-              here = rw (d .draws L (s .0) x) (placed-here (shape w) x (omega arith) (n .large) (n .eight) (words-fit (k .width) (length b) (k .short)));
+              here = rw (d .draws L (s .0) x) (placed-here (shape w) x (shape-good (k .width)) (n .large) (n .eight) (k .short));
             });
       }
 
@@ -91,7 +93,7 @@ module _ {w : ℕ} {b : List ℕ} (k : Ready w b) where
               (record {
                 answer = ap (λ (y : ℕ). At (record { 0 = y })) (i .0);
                 bytes = i .1;
-                here = rw (i .1) (popped-here (shape w) (omega arith) b L h c o (f .0) cl (f .1) (words-fit (k .width) (length b) (k .short)));
+                here = rw (i .1) (popped-here (shape w) (shape-good (k .width)) b L h c o (f .0) cl (f .1) (k .short));
               });
         }
 
@@ -101,7 +103,7 @@ module _ {w : ℕ} {b : List ℕ} (k : Ready w b) where
       no-item = record { width = k .width; class = cl; short = k .short; none = zero-head }
 
       empty : (L : Layout) → Here (shape w) b L → getD (L .lists) c [] ≡ []
-      empty L h = empty-list (shape w) (omega arith) b L h c cl (words-fit (k .width) (length b) (k .short)) zero-head
+      empty L h = empty-list (shape w) (shape-good (k .width)) b L h c cl (k .short) zero-head
 
       pub page-none : (p : ℕ) → Finds w b (pageNeed (shape w) c) p → p ≡ 0 → GivesItem w b c NoRoom b
       unfolding anItem fromPage
@@ -113,7 +115,7 @@ module _ {w : ℕ} {b : List ℕ} (k : Ready w b) where
         made-long L t x = ap length (m .draws L t x) ∙ length-draw w (words (shape w) (endOf (length b)) (paged (shape w) c t L)) b
 
         made-here : (L : Layout) (t : Spot) → SpotIn (shape w) b p (pageNeed (shape w) c) L t → Here (shape w) b₁ (paged (shape w) c t L)
-        made-here L t x = rw (m .draws L t x) (paged-here (shape w) c x (omega arith) cl (page-eight (k .width) c) (empty L (x .here)) (words-fit (k .width) (length b) (k .short)))
+        made-here L t x = rw (m .draws L t x) (paged-here (shape w) c x (shape-good (k .width)) cl (page-eight (k .width) c) (empty L (x .here)) (k .short))
 
         made-head : (L : Layout) (t : Spot) → SpotIn (shape w) b p (pageNeed (shape w) c) L t → wordAt w b₁ (index (shape w) + w * c) ≡ 0 → ⊥
         made-head L t x e =
@@ -146,26 +148,26 @@ module _ {w : ℕ} {b : List ℕ} (k : Ready w b) where
                   let g = first-item (k .width) b₁ new here₁ c cl o refl (made-head L t x) in
                   let i = d .is new o (g .0) here₁ (g .1) in
                   let len = made-long L t x in
-                  let room : 16 * length b₁ + 4 * (4 * w) + 64 * w + 64 < 256 ^ w = words-fit (k .width) (length b₁) (rw len (k .short)) in
+                  let short : length b₁ ≤ shape w .most = rw len (k .short) in
                   let drawn-new : b₁ ≡ draw w (words (shape w) (endOf (length b₁)) new) b = rw len (m .draws L t x) in
                   let all : a ≡ drawn (shape w) (popped (shape w) c o (g .0) new) b =
                   i .1
                   ∙ ap (λ (y : List ℕ). draw w (words (shape w) (endOf (length b₁)) (popped (shape w) c o (g .0) new)) y) drawn-new
-                  ∙ popped-over (shape w) (omega arith) b₁ new here₁ c o (g .0) cl (g .1) room b (sym len) bytes
+                  ∙ popped-over (shape w) (shape-good (k .width)) b₁ new here₁ c o (g .0) cl (g .1) short b (sym len) bytes
                   ∙ ap (λ (y : ℕ). draw w (words (shape w) (endOf y) (popped (shape w) c o (g .0) new)) b) len in
                   rw (empty L h, s .1, g .1)
                   (record {
                     answer = ap (λ (y : ℕ). At (record { 0 = y })) (i .0);
                     bytes = all;
-                    here = rw (i .1) (popped-here (shape w) (omega arith) b₁ new here₁ c o (g .0) cl (g .1) room);
+                    here = rw (i .1) (popped-here (shape w) (shape-good (k .width)) b₁ new here₁ c o (g .0) cl (g .1) short);
                   });
             }
 
 -- the two ways of allocate
-pub small-way : {w : ℕ} {b a : List ℕ} {r : Taken} (n c : ℕ) → c ≡ classOf n → n ≤ largest (shape w) → GivesItem w b c r a → Allocates w b n r a
+pub small-way : {w : ℕ} {b a : List ℕ} {r : Taken} (n c : ℕ) → c ≡ classOf n → n ≤ largestItem (shape w) → GivesItem w b c r a → Allocates w b n r a
 unfolding allocate
-small-way {w} n c e l g = record { is = λ L h. rw (le-leb n (largest (shape w)) l, ← e) (g .is L h) }
+small-way {w} n c e l g = record { is = λ L h. rw (le-leb n (largestItem (shape w)) l, ← e) (g .is L h) }
 
-pub large-way : {w : ℕ} {b a : List ℕ} {r : Taken} (n need : ℕ) → need ≡ needOf (shape w) n → largest (shape w) < n → GivesBlock w b need r a → Allocates w b n r a
+pub large-way : {w : ℕ} {b a : List ℕ} {r : Taken} (n need : ℕ) → need ≡ needOf (shape w) n → largestItem (shape w) < n → GivesBlock w b need r a → Allocates w b n r a
 unfolding allocate
-large-way {w} n need e l g = record { is = λ L h. rw (lt-leb n (largest (shape w)) l, ← e) (g .is L h) }
+large-way {w} n need e l g = record { is = λ L h. rw (lt-leb n (largestItem (shape w)) l, ← e) (g .is L h) }

@@ -12,17 +12,18 @@ use Rattle.model.specs.Layout.{Layout, headOf}
 use Rattle.model.specs.Sound.{Here}
 use Rattle.model.specs.Rules.{thing, find, freed}
 use Rattle.model.specs.Calls.{drawn}
-use Rattle.model.proofs.Drawn.{head-of, listed-below}
-use Rattle.model.proofs.Items.{blocks-range}
-use Rattle.model.proofs.Shown.{head-read}
-use Rattle.model.proofs.Push.{pushed-here, push-law}
-use Rattle.model.proofs.Finding.{ItemFound, item-found}
+use Rattle.model.proofs.Good.{shape-good}
+use Rattle.model.proofs.pictures.Drawn.{head-of, listed-below}
+use Rattle.model.proofs.items.Items.{blocks-range}
+use Rattle.model.proofs.pictures.Shown.{head-read}
+use Rattle.model.proofs.items.Push.{pushed-here, push-law}
+use Rattle.model.proofs.walks.Finding.{ItemFound, item-found}
 use Rattle.engine.specs.Items.{ItemLive, GaveItem}
 use Rattle.model.proofs.Sizes.{words-fit}
 
 module _ {w : ℕ} (wd : Width w) (b : List ℕ) (L : Layout) (a q c : ℕ) (h : Here (shape w) b L) (short : length b ≤ shape w .most) (low : index (shape w) ≤ q) (f : find (shape w) a L ≡ thing (offsetOf (shape w) q) c) where
-  found : ItemFound (shape w) (omega arith) a (offsetOf (shape w) q) c (start (shape w)) (L .blocks)
-  found = item-found (shape w) (omega arith) a (offsetOf (shape w) q) c (start (shape w)) (L .blocks) (omega arith) (h .valid .allowed) f
+  found : ItemFound (shape w) (shape-good wd) a (offsetOf (shape w) q) c (start (shape w)) (L .blocks)
+  found = item-found (shape w) (shape-good wd) a (offsetOf (shape w) q) c (start (shape w)) (L .blocks) (omega arith) (h .valid .allowed) f
 
   pub record Numbers : Type 0 where
     pub class : c < 4 * w
@@ -38,13 +39,13 @@ module _ {w : ℕ} (wd : Width w) (b : List ℕ) (L : Layout) (a q c : ℕ) (h :
         class = found .class;
         from = omega (arith, r .0);
         inside = omega (arith, r .1, h .valid .fills);
-        head = omega (arith, listed-below (shape w) (endOf (length b)) L (h .valid) (words-fit wd (endOf (length b)) (omega arith)) c (headOf (getD (L .lists) c [])) (found .class) (head-of (getD (L .lists) c [])));
+        head = omega (arith, listed-below (shape w) (shape-good wd) (endOf (length b)) L (h .valid) (omega arith) c (headOf (getD (L .lists) c [])) (found .class) (head-of (getD (L .lists) c [])));
         read = head-read (shape w) b L h c (found .class);
       }
 
   pub given-here : Here (shape w) (drawn (shape w) (freed (shape w) (thing (offsetOf (shape w) q) c) L) b) (freed (shape w) (thing (offsetOf (shape w) q) c) L)
   unfolding freed
-  given-here = pushed-here (shape w) (omega arith) b L h c (offsetOf (shape w) q) (found .class) (found .there) (found .in-use) (words-fit wd (length b) short)
+  given-here = pushed-here (shape w) (shape-good wd) b L h c (offsetOf (shape w) q) (found .class) (found .there) (found .in-use) short
 
   pub given-drawn : Bytes b → (first : ℕ) → first ≡ wordAt w b (index (shape w) + w * c) → put w (put w b (index (shape w) + w * c) (q - index (shape w))) q (16 * first + 4 * c + 1) ≡ drawn (shape w) (freed (shape w) (thing (offsetOf (shape w) q) c) L) b
   unfolding freed
@@ -52,7 +53,7 @@ module _ {w : ℕ} (wd : Width w) (b : List ℕ) (L : Layout) (a q c : ℕ) (h :
       let n = numbers in
       let q′ : index (shape w) + offsetOf (shape w) q ≡ q = omega arith in
       let fe : first ≡ headOf (getD (L .lists) c []) = e ∙ n .read in
-      let law = push-law (shape w) (omega arith) b L h c (offsetOf (shape w) q) (found .class) (found .there) (found .in-use) (words-fit wd (length b) short) bytes (omega (arith, n .inside, words-fit wd (length b) short)) (omega (arith, n .class, words-fit wd (headOf (getD (L .lists) c [])) (n .head))) in
+      let law = push-law (shape w) (shape-good wd) b L h c (offsetOf (shape w) q) (found .class) (found .there) (found .in-use) short bytes (omega (arith, n .inside, words-fit wd (length b) short)) (omega (arith, n .class, words-fit wd (headOf (getD (L .lists) c [])) (n .head))) in
       rw fe (ap (λ (y : ℕ). put w (put w b (index (shape w) + w * c) (q - index (shape w))) y (16 * headOf (getD (L .lists) c []) + 4 * c + 1)) (sym q′) ∙ law)
 
 module _ {w : ℕ} (b : List ℕ) (q c : ℕ) (k : ItemLive w b q c) where

@@ -11,10 +11,11 @@ use Rattle.model.specs.Layout.{Layout, headOf}
 use Rattle.model.specs.Sound.{Here}
 use Rattle.model.specs.Rules.{popped}
 use Rattle.model.specs.Calls.{drawn}
-use Rattle.model.proofs.FreeWalk.{here-room}
-use Rattle.model.proofs.Shown.{head-read}
-use Rattle.model.proofs.Pop.{pop-law}
-use Rattle.model.proofs.PopReads.{first-item, pop-reads}
+use Rattle.model.proofs.Good.{shape-good}
+use Rattle.model.proofs.blocks.FreeWalk.{here-room}
+use Rattle.model.proofs.pictures.Shown.{head-read}
+use Rattle.model.proofs.items.Pop.{pop-law}
+use Rattle.model.proofs.items.PopReads.{first-item, pop-reads}
 use Rattle.engine.specs.Items.{HasItem, TookItem}
 use Rattle.model.proofs.Sizes.{words-fit}
 
@@ -31,7 +32,7 @@ module _ {w : ℕ} {b : List ℕ} {c : ℕ} (k : HasItem w b c) where
     pub item-there : ItemThere w b c o
     item-there =
         let f = first-item (k .width) b (k .sound .layout) (k .sound .here) c (k .class) o eo (λ e. k .some-item (sym eo ∙ e)) in
-        let r = pop-reads (k .width) b (k .sound .layout) (k .sound .here) c (k .class) o (f .0) (f .1) (words-fit (k .width) (length b) (k .short)) in
+        let r = pop-reads (k .width) b (k .sound .layout) (k .sound .here) c (k .class) o (f .0) (f .1) (k .short) in
         record { flag = r .flag; inside = r .inside }
 
     pub item-taken : (head at x next r : ℕ) (h₁ h₂ : List ℕ) → head ≡ index (shape w) + w * c → at ≡ index (shape w) + o → x ≡ wordAt w b at → next ≡ (x - (4 * c + 1)) / 16
@@ -42,11 +43,11 @@ module _ {w : ℕ} {b : List ℕ} {c : ℕ} (k : HasItem w b c) where
         go : (L : Layout) (o′ : ℕ) (os : List ℕ) → Here (shape w) b L → getD (L .lists) c [] ≡ o′ ∷ os → (r ≡ index (shape w) + o′ + w) × (h₂ ≡ drawn (shape w) (popped (shape w) c o′ os L) b)
         go L o′ os h is =
             let same : o ≡ o′ = eo ∙ head-read (shape w) b L h c (k .class) ∙ ap headOf is in
-            let p = pop-reads (k .width) b L h c (k .class) o′ os is (words-fit (k .width) (length b) (k .short)) in
+            let p = pop-reads (k .width) b L h c (k .class) o′ os is (k .short) in
             let at-is : at ≡ index (shape w) + o′ = omega arith in
             let x-is : x ≡ wordAt w b (index (shape w) + o′) = ex ∙ ap (λ (y : ℕ). wordAt w b y) at-is in
             let next-is : next ≡ headOf os = en ∙ ap (λ (y : ℕ). (y - (4 * c + 1)) / 16) x-is ∙ p .next in (
               omega arith,
               rw (e₂, e₁, eh, at-is, next-is)
-                  (pop-law (shape w) (omega arith) b L h c o′ os (k .class) is (words-fit (k .width) (length b) (k .short)) bytes (omega (arith, p .next, word-fits w b (index (shape w) + o′) bytes)) (omega (arith, k .class, words-fit (k .width) (length b) (k .short)))),
+                  (pop-law (shape w) (shape-good (k .width)) b L h c o′ os (k .class) is (k .short) bytes (omega (arith, p .next, word-fits w b (index (shape w) + o′) bytes)) (omega (arith, k .class, words-fit (k .width) (length b) (k .short)))),
             )

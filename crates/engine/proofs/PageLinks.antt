@@ -7,9 +7,9 @@ use lib.ListN.{length}
 use Rattle.words.specs.Width.{Width}
 use Rattle.words.specs.Word.{put}
 use Rattle.words.proofs.WordLaws.{length-put}
-use Rattle.model.specs.Shape.{shape, item, offsetOf, index}
+use Rattle.model.specs.Shape.{shape, itemSize, offsetOf, index}
 use Rattle.model.specs.Picture.{draw}
-use Rattle.model.proofs.PageWords.{itemWords}
+use Rattle.model.specs.inner.Links.{itemWords}
 use Rattle.engine.specs.Pages.{ItemsRoom}
 use Rattle.model.proofs.Sizes.{per-page-bound, most-bound}
 
@@ -17,15 +17,15 @@ use Rattle.model.proofs.Sizes.{per-page-bound, most-bound}
 pub record Linking (w : ℕ) (h₀ : List ℕ) (c p size n : ℕ) (h : List ℕ) (left at : ℕ) : Type 0 where
   pub width : Width w
   pub class : c < 4 * w
-  pub size-is : size ≡ item (shape w) c
+  pub size-is : size ≡ itemSize (shape w) c
   pub short : length h₀ ≤ shape w .most
   pub some : 1 ≤ left
   pub low : index (shape w) ≤ at
   pub same : length h ≡ length h₀
-  pub room : at + left * item (shape w) c ≤ length h₀
+  pub room : at + left * itemSize (shape w) c ≤ length h₀
   pub rest : draw w (itemWords (shape w) c at left) h ≡ draw w (itemWords (shape w) c p n) h₀
 
-pub link-start : {w : ℕ} (h : List ℕ) (c p size n : ℕ) → ItemsRoom w (length h) c p → size ≡ item (shape w) c → n ≡ shape w .perPage c → Linking w h c p size (shape w .perPage c) h n p
+pub link-start : {w : ℕ} (h : List ℕ) (c p size n : ℕ) → ItemsRoom w (length h) c p → size ≡ itemSize (shape w) c → n ≡ shape w .perPage c → Linking w h c p size (shape w .perPage c) h n p
 link-start h c p size n r es en =
     record { width = r .width; class = r .class; size-is = es; short = r .short; some = omega (arith, en, per-page-bound (r .width) c); low = r .low; same = refl; room = rw en (r .inside); rest = rw en refl }
 
@@ -55,7 +55,7 @@ module _ {w : ℕ} {h₀ : List ℕ} {c p size n : ℕ} {h : List ℕ} {left at 
       go : (k : ℕ) → left ≡ suc (suc k) → left - 1 ≡ suc k → Linking w h₀ c p size n h′ (left - 1) (at + size)
       go k f g =
           let r : draw w (itemWords (shape w) c at (suc (suc k))) h ≡ draw w (itemWords (shape w) c p n) h₀ = rw f at (i .rest) in
-          let z : at + suc (suc k) * item (shape w) c ≤ length h₀ = rw f at (i .room) in
+          let z : at + suc (suc k) * itemSize (shape w) c ≤ length h₀ = rw f at (i .room) in
           record {
             width = i .width;
             class = i .class;

@@ -13,14 +13,16 @@ use Rattle.model.specs.Picture.{draw}
 use Rattle.model.specs.Layout.{free, Layout, headOf, firstFree, useWords, words}
 use Rattle.model.specs.Rules.{Spot, paged}
 use Rattle.model.specs.Calls.{drawn}
-use Rattle.model.proofs.Blocks.{lastFree}
-use Rattle.model.proofs.Middle.{putIf, Middle, start-le}
-use Rattle.model.proofs.Spots.{SpotIn, spot-middle}
-use Rattle.model.proofs.Taken.{takes, restAt, takes-of, block-in}
-use Rattle.model.proofs.Relist.{head-middle, head-over}
-use Rattle.model.proofs.Heads.{empty-list, none-idle}
-use Rattle.model.proofs.PageWords.{itemWords, first-offset, items-linked}
-use Rattle.model.proofs.Paged.{pageOf, pageList, pageTakes, pageLayout, page-size, paged-as, page-valid}
+use Rattle.model.specs.inner.Walks.{lastFree, SpotIn}
+use Rattle.model.proofs.Good.{shape-good}
+use Rattle.model.proofs.blocks.Middle.{Middle, start-le}
+use Rattle.model.specs.inner.Links.{putIf, takes, restAt, itemWords}
+use Rattle.model.proofs.blocks.Spots.{spot-middle}
+use Rattle.model.proofs.blocks.Taken.{takes-of, block-in}
+use Rattle.model.proofs.pictures.Relist.{head-middle, head-over}
+use Rattle.model.proofs.pictures.Heads.{empty-list, none-idle}
+use Rattle.model.proofs.items.PageWords.{first-offset, items-linked}
+use Rattle.model.proofs.items.Paged.{pageOf, pageList, pageTakes, pageLayout, page-size, paged-as, page-valid}
 use Rattle.engine.specs.declared.blocks.Gap.{Gap}
 use Rattle.engine.specs.Blocks.{GapRead, lowWords, highWords}
 use Rattle.engine.specs.Pages.{NoItem}
@@ -43,7 +45,7 @@ module _ {w : ℕ} {b : List ℕ} {p c : ℕ} (k : NoItem w b c) where
     page-in = omega (arith, block-in (shape w) (spot-middle (shape w) x), x .split .large)
 
     empty : getD (L .lists) c [] ≡ []
-    empty = empty-list (shape w) (omega arith) b L (x .here) c (k .class) (words-fit (k .width) (length b) (k .short)) (k .none)
+    empty = empty-list (shape w) (shape-good (k .width)) b L (x .here) c (k .class) (k .short) (k .none)
 
     -- the heap once the head is written: the free block can be read as before
     module _ (head first : ℕ) (b₁ : List ℕ) (eh : head ≡ index (shape w) + w * c) (ef : first ≡ offsetOf (shape w) (p + w)) (e₁ : b₁ ≡ put w b head first) where
@@ -56,8 +58,8 @@ module _ {w : ℕ} {b : List ℕ} {p c : ℕ} (k : NoItem w b c) where
       pub page-middle : Middle (shape w) b₁ (endOf (length b)) (set (L .lists) c (pageList (shape w) c p)) (t .pre) (free (t .size) ∷ []) (t .post) p (p + t .size) (lastFree (shape w) (start (shape w)) (t .pre) 0) (firstFree (shape w) (p + t .size) (t .post) 0)
       page-middle =
           rw put-is
-          (head-middle (shape w) (omega arith) (endOf (length b)) L (x .here .valid) c (k .class) (pageList (shape w) c p) (spot-middle (shape w) x) (x .split .blocks)
-          (omega (arith, first-is, page-in, page-low, words-fit (k .width) (length b) (k .short))) (words-fit (k .width) (endOf (length b)) (omega (arith, k .short))) (none-idle (shape w) (omega arith) b L (x .here) c (k .class) empty))
+          (head-middle (shape w) (shape-good (k .width)) (endOf (length b)) L (x .here .valid) c (k .class) (pageList (shape w) c p) (spot-middle (shape w) x) (x .split .blocks)
+          (omega (arith, first-is, page-in, page-low, words-fit (k .width) (length b) (k .short))) (omega (arith, k .short)) (none-idle (shape w) (shape-good (k .width)) b L (x .here) c (k .class) empty))
 
       pub page-drawn : Bytes b → (g : Gap) → GapRead w b₁ p g → (u need : ℕ) → need ≡ pageNeed (shape w) c → u ≡ takes (shape w) need (g .size)
           → (h₁ h₂ h₃ : List ℕ) → h₁ ≡ draw w (lowWords w g u 3) b₁ → h₂ ≡ draw w (itemWords (shape w) c (p + w) (shape w .perPage c)) h₁
@@ -66,7 +68,7 @@ module _ {w : ℕ} {b : List ℕ} {p c : ℕ} (k : NoItem w b c) where
           let z = takes-of (shape w) (pageNeed (shape w) c) (t .size) (x .split .large) in
           let u-is : u ≡ pageTakes (shape w) c t = eu ∙ rw (en, s-is (k .width) page-middle g r) refl in
           let len : length b₁ ≡ length b = ap length e₁ ∙ length-put w b head first in
-          let v = page-valid (shape w) c p (x .here .valid) (x .split) (x .at) (omega arith) (k .class) (page-eight (k .width) c) empty in
+          let v = page-valid (shape w) c p (x .here .valid) (x .split) (x .at) (shape-good (k .width)) (k .class) (page-eight (k .width) c) empty in
           let written : h₃ ≡ draw w (words (shape w) (endOf (length b)) (pageLayout (shape w) c p L t)) b₁ =
           rw (← u-is)
           (gap-drawn (k .width) page-middle g r u 3 (pageOf (shape w) c u) (itemWords (shape w) c (p + w) (shape w .perPage c)) (page-size (shape w) c u (omega (arith, u-is, z .enough))) (omega (arith, u-is, z .within))
@@ -74,5 +76,5 @@ module _ {w : ℕ} {b : List ℕ} {p c : ℕ} (k : NoItem w b c) where
           (rw e₁ (bytes-put w b head first bytes)) (omega (arith, len, k .short)) (rw u-is v) h₁ h₂ h₃ d₁ d₂ d₃) in
           written
           ∙ ap (λ (y : List ℕ). draw w (words (shape w) (endOf (length b)) (pageLayout (shape w) c p L t)) y) put-is
-          ∙ head-over (shape w) (omega arith) (endOf (length b)) L (x .here .valid) c (k .class) (pageList (shape w) c p) b (pageLayout (shape w) c p L t) (omega arith) bytes (words-fit (k .width) (endOf (length b)) (omega (arith, k .short))) v
-          ∙ rw (paged-as (shape w) c p (x .here .valid) (x .split) (x .at) (omega arith)) refl
+          ∙ head-over (shape w) (shape-good (k .width)) (endOf (length b)) L (x .here .valid) c (k .class) (pageList (shape w) c p) b (pageLayout (shape w) c p L t) (omega arith) bytes (omega (arith, k .short)) v
+          ∙ rw (paged-as (shape w) c p (x .here .valid) (x .split) (x .at) (shape-good (k .width))) refl

@@ -10,10 +10,12 @@ use Rattle.model.specs.Picture.{draw}
 use Rattle.model.specs.Layout.{variable, Layout, useSize, useWords}
 use Rattle.model.specs.Rules.{Spot}
 use Rattle.model.specs.Calls.{drawn}
-use Rattle.model.proofs.Middle.{putIf}
-use Rattle.model.proofs.Spots.{SpotIn, spot-middle}
-use Rattle.model.proofs.Taken.{takes, restAt, takes-of, size-there}
-use Rattle.model.proofs.Placed.{placedIn, placed-as, variable-valid}
+use Rattle.model.specs.inner.Links.{putIf, takes, restAt}
+use Rattle.model.proofs.Good.{shape-good}
+use Rattle.model.proofs.blocks.Spots.{spot-middle}
+use Rattle.model.specs.inner.Walks.{SpotIn}
+use Rattle.model.proofs.blocks.Taken.{takes-of, size-there}
+use Rattle.model.proofs.blocks.Placed.{placedIn, placed-as, variable-valid}
 use Rattle.engine.specs.declared.blocks.Gap.{Gap}
 use Rattle.engine.specs.Blocks.{GapRead, Needed, lowWords, highWords}
 use Rattle.engine.proofs.Taking.{gap-drawn}
@@ -27,5 +29,5 @@ module _ {w : ℕ} {b : List ℕ} {p need : ℕ} {L : Layout} {t : Spot} (x : Sp
   unfolding useWords useSize draw
   variable-drawn n bytes h₁ h₂ e₁ e₂ =
       let z = takes-of (shape w) need (t .size) (x .split .large) in
-      rw (placed-as (shape w) (x .here .valid) (x .split) (omega arith), ← u-is)
-      (gap-drawn (n .width) (spot-middle (shape w) x) g r u 2 (variable u) [] refl (omega (arith, u-is, z .within)) refl bytes (n .short) (rw u-is (variable-valid (shape w) (x .here .valid) (x .split) (omega arith) (n .large) (n .eight))) h₁ h₁ h₂ e₁ refl e₂)
+      rw (placed-as (shape w) (x .here .valid) (x .split) (shape-good (n .width)), ← u-is)
+      (gap-drawn (n .width) (spot-middle (shape w) x) g r u 2 (variable u) [] refl (omega (arith, u-is, z .within)) refl bytes (n .short) (rw u-is (variable-valid (shape w) (x .here .valid) (x .split) (shape-good (n .width)) (n .large) (n .eight))) h₁ h₁ h₂ e₁ refl e₂)

@@ -15,14 +15,17 @@ use Rattle.model.specs.Layout.{variable, Block, free, used, Layout, useSize, si
 use Rattle.model.specs.Sound.{Allowed, AllAllowed, Apart, Valid, Here}
 use Rattle.model.specs.Rules.{Spot, block, released, freed}
 use Rattle.model.specs.Calls.{drawn}
-use Rattle.model.proofs.Blocks.{lastFree, ends-append, last-append, allowed-left, allowed-right}
-use Rattle.model.proofs.Replace.{three}
-use Rattle.model.proofs.Valid.{endsFree, apart-right}
-use Rattle.model.proofs.Middle.{linkOf, Middle, middle-at, FreeAt, start-le, middle-le, end-le, link-in, prev-in, next-in, back-in, all-post, free-read, link-shown, rewritten}
-use Rattle.model.proofs.Drawn.{drawn-here}
-use Rattle.model.proofs.Standing.{sizes}
-use Rattle.model.proofs.Finding.{block-found}
-use Rattle.model.proofs.Releasing.{free-or-not, Side, nobody, neighbour, left-side, right-side, right-not, old, sides-blocks, left-clear, released-is, ends-old, released-valid}
+use Rattle.model.proofs.Good.{shape-good}
+use Rattle.model.proofs.blocks.Blocks.{ends-append, last-append, allowed-left, allowed-right}
+use Rattle.model.specs.inner.Walks.{lastFree, endsFree}
+use Rattle.model.proofs.blocks.Replace.{three}
+use Rattle.model.proofs.blocks.Valid.{apart-right}
+use Rattle.model.proofs.blocks.Middle.{Middle, middle-at, FreeAt, start-le, middle-le, end-le, link-in, prev-in, next-in, back-in, all-post, free-read, link-shown, rewritten}
+use Rattle.model.specs.inner.Links.{linkOf}
+use Rattle.model.proofs.pictures.Drawn.{drawn-here}
+use Rattle.model.proofs.walks.Standing.{sizes}
+use Rattle.model.proofs.walks.Finding.{block-found}
+use Rattle.model.proofs.blocks.Releasing.{free-or-not, Side, nobody, neighbour, left-side, right-side, right-not, old, sides-blocks, left-clear, released-is, ends-old, released-valid}
 use Rattle.find.specs.declared.Block as found
 use Rattle.find.specs.Find.{BlockFound}
 use Rattle.links.specs.Links.{LinkRoom, freeWords, linkedBytes}
@@ -75,7 +78,7 @@ module _ {w : ℕ} (wd : Width w) (b : List ℕ) (L : Layout) (a : ℕ) (t : Spo
   stop = x .at .0 + x .size
 
   pub blocks-are : L .blocks ≡ t .pre ++ ((used (variable (t .size)) ∷ []) ++ t .post)
-  blocks-are = block-found (shape w) (omega arith) a (start (shape w)) (L .blocks) t (f .found) .blocks
+  blocks-are = block-found (shape w) (shape-good wd) a (start (shape w)) (L .blocks) t (f .found) .blocks
 
   -- the block itself in the middle
   pub self : Middle (shape w) b (endOf (length b)) (L .lists) (t .pre) (used (variable (t .size)) ∷ []) (t .post) (x .at .0) (x .at .0 + x .size) (x .prev .0) (firstFree (shape w) (x .at .0 + x .size) (t .post) 0)
@@ -286,7 +289,7 @@ module _ {w : ℕ} (wd : Width w) (b : List ℕ) (L : Layout) (t : Spot) (from t
   freed-drawn bytes short =
       let n : to - from ≡ j .l + (t .size + j .r) = omega (arith, j .extent) in
       let e : ends (shape w) from (free (j .l + (t .size + j .r)) ∷ []) ≡ to = unfold ends sizeOf in j .extent in
-      rw (released-blocks, n) (rewritten (shape w) middle (free (j .l + (t .size + j .r)) ∷ []) e (omega arith) bytes (words-fit wd (endOf (length b)) (omega arith)) valid)
+      rw (released-blocks, n) (rewritten (shape w) middle (free (j .l + (t .size + j .r)) ∷ []) e (shape-good wd) bytes (omega arith) valid)
 
   pub link-room : length b ≤ shape w .most → LinkRoom w b from to before behind
   link-room short =
@@ -368,4 +371,4 @@ module _ {w : ℕ} (b : List ℕ) (x : found.Block) (k : BlockLive w b x) where
 
         here-after : Here (shape w) (drawn (shape w) (freed (shape w) (block (k .spot)) (k .layout)) b) (freed (shape w) (block (k .spot)) (k .layout))
         here-after =
-            drawn-here (shape w) b (freed (shape w) (block (k .spot)) (k .layout)) (k .here .magic) (freed-valid (k .width) b (k .layout) (k .spot) from to before behind (k .here) bl j) (words-fit (k .width) (length b) (k .short))
+            drawn-here (shape w) (shape-good (k .width)) b (freed (shape w) (block (k .spot)) (k .layout)) (k .here .magic) (freed-valid (k .width) b (k .layout) (k .spot) from to before behind (k .here) bl j) (k .short)

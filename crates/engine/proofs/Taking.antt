@@ -13,10 +13,12 @@ use Rattle.model.specs.Shape.{shape}
 use Rattle.model.specs.Picture.{Word, draw}
 use Rattle.model.specs.Layout.{Use, Block, free, useSize, own, useWords, words}
 use Rattle.model.specs.Sound.{Valid}
-use Rattle.model.proofs.Pictures.{draw-append}
-use Rattle.model.proofs.Replace.{three}
-use Rattle.model.proofs.Middle.{linkOf, backOf, putIf, Middle, end-le, link-in, prev-in, next-in, back-in}
-use Rattle.model.proofs.Taken.{takes, takes-of, restAt, restWords, parts, size-there, next-there, prev-there, size-least, ends-there, block-in, took-of}
+use Rattle.model.proofs.Good.{shape-good}
+use Rattle.model.proofs.pictures.Pictures.{draw-append}
+use Rattle.model.proofs.blocks.Replace.{three}
+use Rattle.model.proofs.blocks.Middle.{Middle, end-le, link-in, prev-in, next-in, back-in}
+use Rattle.model.specs.inner.Links.{linkOf, backOf, putIf, takes, restAt}
+use Rattle.model.proofs.blocks.Taken.{takes-of, restWords, parts, size-there, next-there, prev-there, size-least, ends-there, block-in, took-of}
 use Rattle.engine.specs.declared.blocks.Gap.{Gap}
 use Rattle.links.specs.Links.{freeWords}
 use Rattle.engine.specs.Blocks.{GapRoom, GapRead, PartRoom, lowWords, highWords}
@@ -97,7 +99,7 @@ module _ {w : ℕ} (wd : Width w) {b : List ℕ} {end : ℕ} {ls : List (List �
       let high = highWords w g u kind in
       let all : draw w high h₂ ≡ draw w ws b =
       rw (e₂, e₁) (sym (draw-append w inner high (draw w low b)) ∙ sym (draw-append w low (inner ++ high) b) ∙ ap (λ (l : List Word). draw w l b) (part-words u kind U inner eU)) in
-      e₃ ∙ rw (all, r .back, r .size, r .at, r .prev-is) (took-of (shape w) m s extent u U eu l (omega arith) bytes (words-fit wd end (omega (arith, m .inside))) v)
+      e₃ ∙ rw (all, r .back, r .size, r .at, r .prev-is) (took-of (shape w) m s extent u U eu l (shape-good wd) bytes (omega (arith, m .inside)) v)
 
 module _ {w : ℕ} (wd : Width w) {b : List ℕ} {end : ℕ} {ls : List (List ℕ)} {pre post : List Block} {s p q prev next : ℕ} (m : Middle (shape w) b end ls pre (free s ∷ []) post p q prev next) where
   -- the free block can be read

@@ -7,14 +7,13 @@ use lib.ListN.{length}
 use lib.Dec.{ltb}
 use Rattle.words.specs.Width.{Width}
 use Rattle.words.specs.Word.{wordAt}
-use Rattle.model.specs.Shape.{shape, leastTaken}
+use Rattle.model.specs.Shape.{shape, leastVariable}
 use Rattle.model.specs.Picture.{Word}
 use Rattle.model.specs.Layout.{Layout}
 use Rattle.model.specs.Rules.{Spot, placed, asVariable}
 use Rattle.model.specs.Calls.{drawn}
-use Rattle.model.proofs.Middle.{linkOf, backOf}
-use Rattle.model.proofs.Spots.{SpotIn}
-use Rattle.model.proofs.Taken.{restAt}
+use Rattle.model.specs.inner.Links.{linkOf, backOf, restAt}
+use Rattle.model.specs.inner.Walks.{SpotIn}
 use Rattle.engine.specs.declared.blocks.Gap.{Gap}
 use Rattle.links.specs.Links.{BackRoom, freeWords}
 
@@ -59,7 +58,7 @@ highWords w g u kind =
 -- a size that a variable block may have, in a heap of n bytes
 pub record Needed (w : ℕ) (n need : ℕ) : Type 0 where
   pub width : Width w
-  pub large : leastTaken (shape w) ≤ need
+  pub large : leastVariable (shape w) ≤ need
   pub eight : need % 8 ≡ 0
   pub short : n ≤ shape w .most
 

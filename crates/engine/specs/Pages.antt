@@ -5,18 +5,18 @@ use mathlib.Core.List.{List}
 use lib.ListN.{length}
 use Rattle.words.specs.Width.{Width}
 use Rattle.words.specs.Word.{wordAt}
-use Rattle.model.specs.Shape.{shape, item, pageNeed, index, start}
+use Rattle.model.specs.Shape.{shape, itemSize, pageNeed, index, start}
 use Rattle.model.specs.Layout.{Layout}
 use Rattle.model.specs.Rules.{Spot, paged}
 use Rattle.model.specs.Calls.{drawn}
-use Rattle.model.proofs.Spots.{SpotIn}
+use Rattle.model.specs.inner.Walks.{SpotIn}
 
 -- a page's items of class c have room from p on, within n bytes
 pub record ItemsRoom (w : ℕ) (n c p : ℕ) : Type 0 where
   pub width : Width w
   pub class : c < 4 * w
   pub low : index (shape w) ≤ p
-  pub inside : p + shape w .perPage c * item (shape w) c ≤ n
+  pub inside : p + shape w .perPage c * itemSize (shape w) c ≤ n
   pub short : n ≤ shape w .most
 
 -- there is no item of class c on its list

@@ -16,10 +16,8 @@ ghost use Rattle.model.specs.Picture.{draw};
 ghost use Rattle.model.specs.Layout.{Layout};
 ghost use Rattle.model.specs.Sound.{Here, Sound};
 ghost use Rattle.model.specs.Rules.{fit};
-ghost use Rattle.model.proofs.FreeWalk.{foundAt};
-ghost use Rattle.model.proofs.Middle.{putIf};
-ghost use Rattle.model.proofs.Spots.{Spotted};
-ghost use Rattle.model.proofs.Taken.{takes, restAt};
+ghost use Rattle.model.specs.inner.Walks.{foundAt, Spotted};
+ghost use Rattle.model.specs.inner.Links.{putIf, takes, restAt};
 ghost use Rattle.engine.specs.Blocks.{GapRoom, GapRead, PartRoom, Needed, Placed, lowWords, highWords};
 
 // A free block: where it begins, its size, the free blocks behind and before it, and where the links to it from there stand.

@@ -14,8 +14,8 @@ ghost use mathlib.Core.Path.{_≡_};
 ghost use lib.ListN.{length};
 ghost use Rattle.model.specs.Shape.{shape, pageNeed};
 ghost use Rattle.model.specs.Picture.{draw};
-ghost use Rattle.model.proofs.PageWords.{itemWords};
-ghost use Rattle.model.proofs.Spots.{Spotted};
+ghost use Rattle.model.specs.inner.Links.{itemWords};
+ghost use Rattle.model.specs.inner.Walks.{Spotted};
 ghost use Rattle.engine.specs.Pages.{ItemsRoom, NoItem, MadePage};
 
 // The headers of a page's items of class c from p on, all free, each linked to the next.

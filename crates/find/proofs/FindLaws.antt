@@ -7,18 +7,20 @@ use native.Mathlib.Omega.{arith}
 use lib.ListN.{length, getD}
 use Rattle.words.specs.Width.{Width}
 use Rattle.words.specs.Word.{wordAt}
-use Rattle.model.specs.Shape.{shape, item, offsetOf, endOf, start, index}
+use Rattle.model.specs.Shape.{shape, itemSize, offsetOf, endOf, start, index}
 use Rattle.model.specs.declared.Position.{Position}
 use Rattle.model.specs.Picture.{Shows}
 use Rattle.model.specs.Layout.{Slot, variable, page, Block, free, used, Layout, nextOf, useSize, slotWords, useWords, own}
 use Rattle.model.specs.Sound.{Allowed, AllowedUse, AllAllowed, Here, Sound}
 use Rattle.model.specs.Rules.{Spot, Found, block, thing, nothing, find, findFrom, inSlots}
+use Rattle.model.proofs.Good.{shape-good}
 use Rattle.model.proofs.Sizes.{per-page-bound}
-use Rattle.model.proofs.Pictures.{shows-left}
-use Rattle.model.proofs.Blocks.{allowed-left, le-ends}
-use Rattle.model.proofs.Standing.{Standing, stand-start, PageThere, sized, walk-free, walk-used, is-variable, is-free, is-page}
-use Rattle.model.proofs.Finding.{behinds, slots-below, find-past, find-below, find-at, find-not-at, find-free, find-page}
-use Rattle.model.proofs.Aligned.{next-aligned, class-read, SlotRead, slot-read, slots-none}
+use Rattle.model.proofs.pictures.Pictures.{shows-left}
+use Rattle.model.proofs.blocks.Blocks.{allowed-left, le-ends}
+use Rattle.model.proofs.walks.Standing.{stand-start, PageThere, sized, walk-free, walk-used, is-variable, is-free, is-page}
+use Rattle.model.specs.inner.Walks.{Standing}
+use Rattle.model.proofs.walks.Finding.{behinds, slots-below, find-past, find-below, find-at, find-not-at, find-free, find-page}
+use Rattle.model.proofs.items.Aligned.{next-aligned, class-read, SlotRead, slot-read, slots-none}
 use Rattle.find.specs.declared.Live.the-variants.{Nothing, Item, Variable}
 use Rattle.find.specs.Find.{Finds, OnBlock, OnPage}
 
@@ -28,21 +30,21 @@ module _ {w : ℕ} (wd : Width w) {b : List ℕ} {L : Layout} (h : Here (shape w
   find-from a l =
       let all : AllAllowed (shape w) (s .pre ++ s .rest) = subst (λ (l : List Block). AllAllowed (shape w) l) (s .blocks) (h .valid .allowed) in
       let e : find (shape w) a L ≡ findFrom (shape w) a (start (shape w)) (s .pre ++ s .rest) = ap (λ (l : List Block). findFrom (shape w) a (start (shape w)) l) (s .blocks) in
-      e ∙ find-past (shape w) (omega arith) a (start (shape w)) (s .pre) (s .rest) (allowed-left (shape w) (s .pre) (s .rest) all) (omega (arith, s .begins))
+      e ∙ find-past (shape w) (shape-good wd) a (start (shape w)) (s .pre) (s .rest) (allowed-left (shape w) (s .pre) (s .rest) all) (omega (arith, s .begins))
       ∙ ap (λ (q : ℕ). behinds (s .pre) (findFrom (shape w) a q (s .rest))) (s .begins)
 
   -- nothing is live where a block begins
   pub found-between : (a : ℕ) → p ≡ a → Finds w L a Nothing
   unfolding Finds
   found-between a e =
-      find-from a (omega arith) ∙ ap (λ (f : Found). behinds (s .pre) f) (find-below (shape w) (omega arith) a p (s .rest) (omega arith))
+      find-from a (omega arith) ∙ ap (λ (f : Found). behinds (s .pre) f) (find-below (shape w) (shape-good wd) a p (s .rest) (omega arith))
 
 -- nor behind the end
 pub found-behind : {w : ℕ} → Width w → (b : List ℕ) (L : Layout) (a : ℕ) → Here (shape w) b L → endOf (length b) ≤ a → Finds w L a Nothing
 unfolding Finds findFrom
 found-behind {w} wd b L a h l =
     let e : find (shape w) a L ≡ findFrom (shape w) a (start (shape w)) (L .blocks ++ []) = ap (λ (l : List Block). findFrom (shape w) a (start (shape w)) l) (sym (append-nil (L .blocks))) in
-    e ∙ find-past (shape w) (omega arith) a (start (shape w)) (L .blocks) [] (h .valid .allowed) (omega (arith, h .valid .fills))
+    e ∙ find-past (shape w) (shape-good wd) a (start (shape w)) (L .blocks) [] (h .valid .allowed) (omega (arith, h .valid .fills))
 
 module _ {w : ℕ} {b : List ℕ} {p t prev left a : ℕ} (o : OnBlock w b p t prev left a) (L : Layout) (h : Here (shape w) b L) where
   stands : Standing w L p prev left
@@ -55,14 +57,14 @@ module _ {w : ℕ} {b : List ℕ} {p t prev left a : ℕ} (o : OnBlock w b p t p
   unfolding Finds
   found-in-free z =
       let r = is-free (o .width) h stands t (o .tag) (omega (arith, o .from, o .below)) z in
-      found-rest (free (t / 8 * 8) ∷ r .0) (r .1) ∙ ap (λ (f : Found). behinds (stands .pre) f) (find-free (shape w) (omega arith) a p (t / 8 * 8) (r .0) (o .reach))
+      found-rest (free (t / 8 * 8) ∷ r .0) (r .1) ∙ ap (λ (f : Found). behinds (stands .pre) f) (find-free (shape w) (shape-good (o .width)) a p (t / 8 * 8) (r .0) (o .reach))
 
   pub found-elsewhere : t % 8 ≡ 2 → (a ≡ p + w → ⊥) → Finds w L a Nothing
   unfolding Finds
   found-elsewhere z n =
       let r = is-variable (o .width) h stands t (o .tag) (omega (arith, o .from, o .below)) z in
       found-rest (used (variable (t / 8 * 8)) ∷ r .0) (r .1)
-      ∙ ap (λ (f : Found). behinds (stands .pre) f) (find-not-at (shape w) (omega arith) a p (t / 8 * 8) (r .0) n (o .reach))
+      ∙ ap (λ (f : Found). behinds (stands .pre) f) (find-not-at (shape w) (shape-good (o .width)) a p (t / 8 * 8) (r .0) n (o .reach))
 
   pub found-variable : (at before : Position) → at .0 ≡ p → before .0 ≡ prev → t % 8 ≡ 2 → a ≡ p + w → Finds w L a (Variable (record { at = at; size = t / 8 * 8; prev = before; left = left }))
   unfolding Finds
@@ -72,7 +74,7 @@ module _ {w : ℕ} {b : List ℕ} {p t prev left a : ℕ} (o : OnBlock w b p t p
         spot,
         record {
           found = found-rest (used (variable (t / 8 * 8)) ∷ r .0) (r .1)
-              ∙ ap (λ (f : Found). behinds (stands .pre) f) (find-at (shape w) (omega arith) a p (t / 8 * 8) (r .0) e)
+              ∙ ap (λ (f : Found). behinds (stands .pre) f) (find-at (shape w) (shape-good (o .width)) a p (t / 8 * 8) (r .0) e)
               ∙ ap (λ (l : List Block). block (record { pre = l; size = t / 8 * 8; post = r .0 })) (append-nil (stands .pre));
           at = stands .begins ∙ sym ea;
           size = refl;
@@ -122,25 +124,25 @@ module _ {w : ℕ} {b : List ℕ} {p a : ℕ} (o : OnPage w b p a) (L : Layout) 
   in-slots f e =
       found-rest on L h (used (page (there .class) (there .spare) (there .slots)) ∷ there .after) (there .rest)
       ∙ ap (λ (g : Found). behinds (stands on L h .pre) g)
-      (find-page (shape w) (omega arith) a p (there .class) (there .spare) (there .slots) (there .after) (omega (arith, on .reach, there .size)) ∙ e)
+      (find-page (shape w) (shape-good (on .width)) a p (there .class) (there .spare) (there .slots) (there .after) (omega (arith, on .reach, there .size)) ∙ e)
 
   pub page-low : a < p + 2 * w → Finds w L a Nothing
   unfolding Finds
-  page-low l = in-slots nothing (slots-below (shape w) (omega arith) a class (p + w) (there .slots) (omega arith))
+  page-low l = in-slots nothing (slots-below (shape w) (shape-good (on .width)) a class (p + w) (there .slots) (omega arith))
 
   -- f is the first header, c the class that it says, s the items' size and n their number, as code works them out
-  module _ (f c s n d : ℕ) (ef : f ≡ wordAt w b (p + w)) (ec : c ≡ f % (16 * w) / 4) (es : s ≡ item (shape w) c) (en : n ≡ shape w .perPage c) (from : p + 2 * w ≤ a) (ed : d ≡ a - (p + 2 * w)) where
+  module _ (f c s n d : ℕ) (ef : f ≡ wordAt w b (p + w)) (ec : c ≡ f % (16 * w) / 4) (es : s ≡ itemSize (shape w) c) (en : n ≡ shape w .perPage c) (from : p + 2 * w ≤ a) (ed : d ≡ a - (p + 2 * w)) where
     class-same : c ≡ class
     class-same = class-is c (ec ∙ ap (λ (x : ℕ). x % (16 * w) / 4) ef)
 
-    size-same : s ≡ item (shape w) class
-    size-same = es ∙ ap (λ (x : ℕ). item (shape w) x) class-same
+    size-same : s ≡ itemSize (shape w) class
+    size-same = es ∙ ap (λ (x : ℕ). itemSize (shape w) x) class-same
 
     count-same : n ≡ length (there .slots)
     count-same = en ∙ ap (λ (x : ℕ). shape w .perPage x) class-same ∙ sym counted
 
     -- an address that is an item's is a whole number of items on
-    whole : (i : ℕ) → a ≡ p + w + i * item (shape w) class + w → i * s ≡ d
+    whole : (i : ℕ) → a ≡ p + w + i * itemSize (shape w) class + w → i * s ≡ d
     whole i e = rw (size-same, ed) (omega arith)
 
     pub page-uneven : (d % s ≡ 0 → ⊥) → Finds w L a Nothing
@@ -152,7 +154,7 @@ module _ {w : ℕ} {b : List ℕ} {p a : ℕ} (o : OnPage w b p a) (L : Layout) 
     unfolding Finds
     page-over z = in-slots nothing (slots-none (on .width) a class (p + w) (there .slots) (λ i l e. omega (arith, count-same, quotient i e)))
       where
-        quotient : (i : ℕ) → a ≡ p + w + i * item (shape w) class + w → d / s ≡ i
+        quotient : (i : ℕ) → a ≡ p + w + i * itemSize (shape w) class + w → d / s ≡ i
         quotient i e = ap (λ (x : ℕ). x / s) (sym (whole i e)) ∙ mul-div-cancel i (omega (arith, size-same))
 
     module _ (even : d % s ≡ 0) (within : d / s < n) (x : ℕ) (q : Position) (eq : q .0 ≡ a - w) (eq-x : x ≡ wordAt w b (q .0)) where
@@ -162,7 +164,7 @@ module _ {w : ℕ} {b : List ℕ} {p a : ℕ} (o : OnPage w b p a) (L : Layout) 
       read : SlotRead (on .width) b (getD (L .lists) class []) class class-few aligned a (p + w) (there .slots)
       read =
           let e : d / s * s ≡ d = omega (arith, div-add-mod' d s) in
-          let g : d / s * item (shape w) class ≡ d = ap (λ (x : ℕ). d / s * x) (sym size-same) ∙ e in
+          let g : d / s * itemSize (shape w) class ≡ d = ap (λ (x : ℕ). d / s * x) (sym size-same) ∙ e in
           slot-read (on .width) b (getD (L .lists) class []) class class-few aligned a (p + w) (d / s) (there .slots) (omega (arith, count-same)) (omega (arith, g, ed)) slots-shown
 
       pub page-idle : (x ≡ 4 * c + 3 → ⊥) → Finds w L a Nothing
@@ -180,7 +182,7 @@ module _ {w : ℕ} {b : List ℕ} {p a : ℕ} (o : OnPage w b p a) (L : Layout) 
 -- nothing is live before the data area
 pub found-before : {w : ℕ} → Width w → (L : Layout) (a : ℕ) → a < (start (shape w)) → Finds w L a Nothing
 unfolding Finds
-found-before {w} wd L a l = find-below (shape w) (omega arith) a (start (shape w)) (L .blocks) (omega arith)
+found-before {w} wd L a l = find-below (shape w) (shape-good wd) a (start (shape w)) (L .blocks) (omega arith)
 
 -- the walk towards a stands at p
 pub record Looking (w : ℕ) (b : List ℕ) (a p prev left : ℕ) : Type 0 where

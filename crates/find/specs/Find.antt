@@ -9,9 +9,7 @@ use Rattle.model.specs.Shape.{shape, offsetOf, endOf, index, start}
 use Rattle.model.specs.Layout.{Layout, ends}
 use Rattle.model.specs.Sound.{Here, Sound}
 use Rattle.model.specs.Rules.{Spot, block, thing, nothing, find}
-use Rattle.model.proofs.Blocks.{lastFree}
-use Rattle.model.proofs.Valid.{endsFree}
-use Rattle.model.proofs.Standing.{Standing}
+use Rattle.model.specs.inner.Walks.{lastFree, endsFree, Standing}
 use Rattle.find.specs.declared.Block.{Block}
 use Rattle.find.specs.declared.Live.{Live}
 use Rattle.find.specs.declared.Live.the-variants.{Nothing, Item, Variable}

@@ -13,7 +13,7 @@ use Rattle.model.specs.Layout.{free, headOf, sizeOf, firstFree, own, blockWords
 use Rattle.model.specs.Rules.{fresh}
 use Rattle.model.specs.Calls.{drawn}
 use Rattle.model.proofs.Sizes.{start-eight, heads-room}
-use Rattle.model.proofs.Pictures.{draw-append}
+use Rattle.model.proofs.pictures.Pictures.{draw-append}
 use Rattle.fresh.specs.Fresh.{lowWords, highWords}
 
 -- n empty lists' heads from class c on

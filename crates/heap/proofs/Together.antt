@@ -13,7 +13,7 @@ use Rattle.model.specs.Reading.{theEnd, Statistics, Step, ended, step}
 use Rattle.model.specs.Refusals.{notLive}
 use Rattle.model.specs.Calls.{Told, Lent, Opened, found, LooksUp, Steps, Counts, Tabulates}
 use Rattle.model.proofs.Sizes.{eight}
-use Rattle.model.proofs.Steps.{step-rises, step-stays}
+use Rattle.model.proofs.walks.Steps.{step-rises, step-stays}
 use Rattle.heap.specs.Counting.{TableTold}
 use Rattle.heap.specs.Lookup.{PartTold, RefusalTold}
 

@@ -7,7 +7,7 @@ use Rattle.words.specs.Width.{Width}
 use Rattle.words.specs.Word.{wordAt}
 use Rattle.model.specs.Shape.{shape}
 use Rattle.model.specs.Picture.{Word, draw}
-use Rattle.model.proofs.Middle.{linkOf, backOf, putIf}
+use Rattle.model.specs.inner.Links.{linkOf, backOf, putIf}
 
 -- where next is no 0 a free block stands there, as far as a link back asks
 pub record BackRoom (w : ℕ) (b : List ℕ) (next : ℕ) : Type 0 where

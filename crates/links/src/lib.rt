@@ -9,7 +9,7 @@ ghost use lib.ListN.{length};
 ghost use Rattle.words.specs.Width.{Width};
 ghost use Rattle.model.specs.Shape.{shape};
 ghost use Rattle.model.specs.Picture.{draw};
-ghost use Rattle.model.proofs.Middle.{linkOf, backOf, putIf};
+ghost use Rattle.model.specs.inner.Links.{linkOf, backOf, putIf};
 ghost use Rattle.links.specs.Links.{BackRoom, FreeRoom, LinkRoom, freeWords, linkedBytes};
 
 // Where the link to what follows the free block at prev stands: in that block, or in the header where prev is 0.

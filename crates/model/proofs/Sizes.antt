@@ -5,7 +5,7 @@ use native.Mathlib.Nat.{div-le-self, div-mul-le-self, mul-le-mul-left}
 use native.Mathlib.Omega.{arith}
 use Rattle.words.specs.Width.{Width}
 use Rattle.words.proofs.WidthLaws.{widths}
-use Rattle.model.specs.Shape.{shape, start, index, leastTaken, needOf, item, pageNeed}
+use Rattle.model.specs.Shape.{shape, start, index, leastVariable, needOf, itemSize, pageNeed}
 
 pub eight : Width 8
 eight = omega arith
@@ -14,12 +14,12 @@ pub per-page-bound : {w : ℕ} → Width w → (c : ℕ) → (1 ≤ shape w .per
 per-page-bound {w} k c = widths (λ w. (1 ≤ shape w .perPage c) × (shape w .perPage c ≤ 4097)) (omega arith) (omega (arith, div-le-self 4096 (8 * c + 16))) w k
 
 -- a page's items take at most 4,096 bytes and one item more
-pub page-items-bound : {w : ℕ} → Width w → (c : ℕ) → c < 4 * w → shape w .perPage c * item (shape w) c ≤ 4360
+pub page-items-bound : {w : ℕ} → Width w → (c : ℕ) → c < 4 * w → shape w .perPage c * itemSize (shape w) c ≤ 4360
 page-items-bound {w} k c =
-    widths (λ w. c < 4 * w → shape w .perPage c * item (shape w) c ≤ 4360) (omega arith) (omega (arith, div-mul-le-self 4096 (8 * c + 16))) w k
+    widths (λ w. c < 4 * w → shape w .perPage c * itemSize (shape w) c ≤ 4360) (omega arith) (omega (arith, div-mul-le-self 4096 (8 * c + 16))) w k
 
 -- the same of numbers that are known to be a page's count and its items' size
-pub page-product : {w : ℕ} → Width w → (c n s : ℕ) → c < 4 * w → n ≡ shape w .perPage c → s ≡ item (shape w) c → (n * s ≤ 4360) × (2 * w + n * s ≡ pageNeed (shape w) c)
+pub page-product : {w : ℕ} → Width w → (c n s : ℕ) → c < 4 * w → n ≡ shape w .perPage c → s ≡ itemSize (shape w) c → (n * s ≤ 4360) × (2 * w + n * s ≡ pageNeed (shape w) c)
 page-product k c n s l e f = rw (e, f) (page-items-bound k c l, refl)
 
 -- the class that a header says is below the number of classes
@@ -27,11 +27,11 @@ pub class-few : {w : ℕ} → Width w → (x : ℕ) → x % (16 * w) / 4 < 4 * w
 class-few {w} k x = widths (λ w. x % (16 * w) / 4 < 4 * w) (omega arith) (omega arith) w k
 
 -- a page's size is a multiple of 8, and no less than a free block's
-pub page-eight : {w : ℕ} → Width w → (c : ℕ) → (2 * w + shape w .perPage c * item (shape w) c) % 8 ≡ 0
-page-eight {w} k c = widths (λ w. (2 * w + shape w .perPage c * item (shape w) c) % 8 ≡ 0) (omega arith) (omega arith) w k
+pub page-eight : {w : ℕ} → Width w → (c : ℕ) → (2 * w + shape w .perPage c * itemSize (shape w) c) % 8 ≡ 0
+page-eight {w} k c = widths (λ w. (2 * w + shape w .perPage c * itemSize (shape w) c) % 8 ≡ 0) (omega arith) (omega arith) w k
 
-pub page-least : {w : ℕ} → Width w → (c : ℕ) → 4 * w ≤ 2 * w + shape w .perPage c * item (shape w) c
-page-least {w} k c = widths (λ w. 4 * w ≤ 2 * w + shape w .perPage c * item (shape w) c) (omega arith) (omega arith) w k
+pub page-least : {w : ℕ} → Width w → (c : ℕ) → 4 * w ≤ 2 * w + shape w .perPage c * itemSize (shape w) c
+page-least {w} k c = widths (λ w. 4 * w ≤ 2 * w + shape w .perPage c * itemSize (shape w) c) (omega arith) (omega arith) w k
 
 -- the data area begins at a multiple of 8
 pub start-eight : {w : ℕ} → Width w → start (shape w) % 8 ≡ 0
@@ -42,8 +42,8 @@ module _ {w : ℕ} (k : Width w) (p : ℕ) where
   pub first-even : p % 8 ≡ 0 → (p + w) % w ≡ 0
   first-even = widths (λ w. p % 8 ≡ 0 → (p + w) % w ≡ 0) (omega arith) (omega arith) w k
 
-  pub item-even : (c : ℕ) → p % w ≡ 0 → (p + item (shape w) c) % w ≡ 0
-  item-even c = widths (λ w. p % w ≡ 0 → (p + item (shape w) c) % w ≡ 0) (omega arith) (omega arith) w k
+  pub item-even : (c : ℕ) → p % w ≡ 0 → (p + itemSize (shape w) c) % w ≡ 0
+  item-even c = widths (λ w. p % w ≡ 0 → (p + itemSize (shape w) c) % w ≡ 0) (omega arith) (omega arith) w k
 
   pub offset-even : index (shape w) ≤ p → p % w ≡ 0 → (p - index (shape w)) % w ≡ 0
   offset-even = widths (λ w. index (shape w) ≤ p → p % w ≡ 0 → (p - index (shape w)) % w ≡ 0) (omega arith) (omega arith) w k
@@ -76,5 +76,5 @@ pub end-room : {w : ℕ} → Width w → (n : ℕ) → start (shape w) + 4 * w �
 end-room {w} k n = widths (λ w. start (shape w) + 4 * w ≤ n → start (shape w) + 4 * w ≤ n / 8 * 8) (omega arith) (omega arith) w k
 
 -- a size above the largest item needs a block that is large enough
-pub need-sized : {w : ℕ} → Width w → (n : ℕ) → 32 * w < n → (leastTaken (shape w) ≤ needOf (shape w) n) × (needOf (shape w) n % 8 ≡ 0)
-need-sized {w} k n = widths (λ w. 32 * w < n → (leastTaken (shape w) ≤ needOf (shape w) n) × (needOf (shape w) n % 8 ≡ 0)) (omega arith) (omega arith) w k
+pub need-sized : {w : ℕ} → Width w → (n : ℕ) → 32 * w < n → (leastVariable (shape w) ≤ needOf (shape w) n) × (needOf (shape w) n % 8 ≡ 0)
+need-sized {w} k n = widths (λ w. 32 * w < n → (leastVariable (shape w) ≤ needOf (shape w) n) × (needOf (shape w) n % 8 ≡ 0)) (omega arith) (omega arith) w k

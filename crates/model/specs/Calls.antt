@@ -9,7 +9,7 @@ use lib.Dec.{leb}
 use Rattle.words.specs.Word.{wordAt, put}
 use Rattle.words.specs.Copy.{copied}
 use Rattle.model.specs.Picture.{draw}
-use Rattle.model.specs.Shape.{Shape, start, least, endOf}
+use Rattle.model.specs.Shape.{Shape, shortest, endOf}
 use Rattle.model.specs.Layout.{Layout, words}
 use Rattle.model.specs.Sound.{Here, Sound}
 use Rattle.model.specs.Rules.{Made, Found, block, thing, nothing, allocate, find, freed, capacity, stays, fresh}
@@ -40,7 +40,7 @@ pub record Told (A : Type 0) : Type 0 where
 module _ (S : Shape) where
   -- N is as it must be; the first 8 bytes are there
   abbrev pub Lent : List ℕ → Type 0
-  Lent b = (start S + least S ≤ length b) × (length b ≤ S .most)
+  Lent b = (shortest S ≤ length b) × (length b ≤ S .most)
 
   abbrev pub Opened : List ℕ → Type 0
   Opened b = wordAt 8 b 0 ≡ S .magic

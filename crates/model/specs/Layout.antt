@@ -6,7 +6,8 @@ use mathlib.Core.List.{List, [], _∷_, _++_}
 use lib.ListN.{length, getD}
 use lib.Dec.{eqb}
 use Rattle.model.specs.Picture.{Word}
-use Rattle.model.specs.Shape.{Shape, start, index, firstFreeAt, tags, item, offsetOf}
+use Rattle.model.specs.Shape.{Shape, start, index, tags, itemSize, offsetOf}
+use Rattle.model.specs.Parts.{variableKind, pageKind, tagOf, freeHeader, heldHeader, dataAt, indexAt, firstFreeAt, endAt, indexTag, indexTagAt, indexFarTagAt, farTagAt, nextAt, previousAt, firstItemAt}
 
 -- an item of a page: free, or in use
 pub data Slot : Type 0 where
@@ -48,7 +49,7 @@ module _ (S : Shape) where
   -- a block's whole size
   unfoldable pub useSize : Use → ℕ
   useSize (variable s) = s
-  useSize (page c spare slots) = tags S + length slots * item S c + spare
+  useSize (page c spare slots) = tags S + length slots * itemSize S c + spare
 
   unfoldable pub sizeOf : Block → ℕ
   sizeOf (free s) = s
@@ -66,30 +67,30 @@ module _ (S : Shape) where
 
   -- the header of the item at p, of class c, whose free items are listed in l
   unfoldable pub header : ℕ → List ℕ → ℕ → Slot → ℕ
-  header c l p idle = 16 * nextOf (offsetOf S p) l + 4 * c + 1
-  header c l p held = 4 * c + 3
+  header c l p idle = freeHeader c (nextOf (offsetOf S p) l)
+  header c l p held = heldHeader c
 
   -- the headers of a page's items from position p on
   unfoldable pub slotWords : ℕ → List ℕ → ℕ → List Slot → List Word
   slotWords c l p [] = []
-  slotWords c l p (s ∷ ss) = record { at = p; is = header c l p s } ∷ slotWords c l (p + item S c) ss
+  slotWords c l p (s ∷ ss) = record { at = p; is = header c l p s } ∷ slotWords c l (p + itemSize S c) ss
 
   -- the words of a block in use that begins at p
   unfoldable pub useWords : List (List ℕ) → ℕ → Use → List Word
-  useWords ls p (variable s) = record { at = p; is = s + 2 } ∷ record { at = p + s - S .word; is = s + 2 } ∷ []
+  useWords ls p (variable s) = record { at = p; is = tagOf s variableKind } ∷ record { at = farTagAt S p s; is = tagOf s variableKind } ∷ []
   useWords ls p (page c k slots) =
-      record { at = p; is = useSize (page c k slots) + 3 }
-      ∷ slotWords c (getD ls c []) (p + S .word) slots
-      ++ record { at = p + useSize (page c k slots) - S .word; is = useSize (page c k slots) + 3 }
+      record { at = p; is = tagOf (useSize (page c k slots)) pageKind }
+      ∷ slotWords c (getD ls c []) (firstItemAt S p) slots
+      ++ record { at = farTagAt S p (useSize (page c k slots)); is = tagOf (useSize (page c k slots)) pageKind }
       ∷ []
 
   -- a block's own words, where it begins at p, the free block before it stands at prev and the one after it at next, 0 where there is none
   unfoldable pub own : List (List ℕ) → ℕ → ℕ → ℕ → Block → List Word
   own ls p prev next (free s) =
       record { at = p; is = s }
-      ∷ record { at = p + S .word; is = next }
-      ∷ record { at = p + s - 2 * S .word; is = prev }
-      ∷ record { at = p + s - S .word; is = s }
+      ∷ record { at = nextAt S p; is = next }
+      ∷ record { at = previousAt S p s; is = prev }
+      ∷ record { at = farTagAt S p s; is = s }
       ∷ []
   own ls p prev next (used u) = useWords ls p u
 
@@ -106,14 +107,14 @@ module _ (S : Shape) where
 
   -- the words before the first free block's, and between that and the blocks
   unfoldable pub fixedLow : List Word
-  fixedLow = record { at = 8; is = start S } ∷ record { at = 8 + S .word; is = index S } ∷ []
+  fixedLow = record { at = dataAt S; is = start S } ∷ record { at = indexAt S; is = index S } ∷ []
 
   unfoldable pub fixedHigh : ℕ → List (List ℕ) → List Word
   fixedHigh end ls =
-      record { at = 8 + 3 * S .word; is = end }
-      ∷ record { at = 8 + 4 * S .word; is = S .word * S .classes + tags S + 3 }
+      record { at = endAt S; is = end }
+      ∷ record { at = indexTagAt S; is = indexTag S }
       ∷ headWords (index S) ls
-      ++ record { at = start S - S .word; is = S .word * S .classes + tags S + 3 }
+      ++ record { at = indexFarTagAt S; is = indexTag S }
       ∷ []
 
   -- every word that a heap with this layout and this end must hold, but the magic number

@@ -1,8 +1,10 @@
 pub mod Shape
+pub mod Parts
 pub mod Picture
 pub mod Layout
 pub mod Sound
 pub mod Rules
+pub mod inner
 pub mod Live
 pub mod Reading
 pub mod Walking

@@ -4,7 +4,8 @@ use mathlib.Core.Path.{_≡_}
 use mathlib.Core.Logic.{_⊎_}
 use mathlib.Core.List.{List, [], _∷_, _++_}
 use lib.ListN.{take, drop}
-use Rattle.model.specs.Shape.{Shape, start, tags, item, holds, addressOf}
+use Rattle.model.specs.Shape.{Shape, start, itemSize, itemCapacity, blockCapacity, addressOf}
+use Rattle.model.specs.Parts.{firstItemAt}
 use Rattle.model.specs.Layout.{Slot, idle, held, Use, variable, page, Block, free, used, Layout, useSize}
 
 infix 40 _∈_
@@ -30,12 +31,12 @@ module _ (S : Shape) where
   -- of a page's items from position p on; of a block in use at p; of blocks from p on
   unfoldable pub slotsLive : ℕ → ℕ → List Slot → List Payload
   slotsLive c p [] = []
-  slotsLive c p (idle ∷ ss) = slotsLive c (p + item S c) ss
-  slotsLive c p (held ∷ ss) = record { address = addressOf S p; size = holds S c } ∷ slotsLive c (p + item S c) ss
+  slotsLive c p (idle ∷ ss) = slotsLive c (p + itemSize S c) ss
+  slotsLive c p (held ∷ ss) = record { address = addressOf S p; size = itemCapacity S c } ∷ slotsLive c (p + itemSize S c) ss
 
   unfoldable pub useLive : ℕ → Use → List Payload
-  useLive p (variable s) = record { address = addressOf S p; size = s - tags S } ∷ []
-  useLive p (page c k ss) = slotsLive c (p + S .word) ss
+  useLive p (variable s) = record { address = addressOf S p; size = blockCapacity S s } ∷ []
+  useLive p (page c k ss) = slotsLive c (firstItemAt S p) ss
 
   unfoldable pub liveFrom : ℕ → List Block → List Payload
   liveFrom p [] = []

@@ -6,7 +6,7 @@ use mathlib.Core.List.{List, [], _∷_}
 use mathlib.Core.Option.{none}
 use lib.ListN.{length, getD, take}
 use Rattle.model.specs.Picture.{Word}
-use Rattle.model.specs.Shape.{Shape, start, largest, classOf, needOf, pageNeed}
+use Rattle.model.specs.Shape.{Shape, start, largestItem, classOf, needOf, pageNeed}
 use Rattle.model.specs.Layout.{free, Layout, words}
 use Rattle.model.specs.Sound.{Sound, Valid, Here}
 use Rattle.model.specs.Rules.{find, stays}
@@ -119,8 +119,8 @@ module _ (S : Shape) where
 
   abbrev pub NoRoom : ℕ → Layout → Type 0
   NoRoom n L =
-      (n ≤ largest S → (getD (L .lists) (classOf n) [] ≡ []) × NoBlock (pageNeed S (classOf n)) L)
-      × (largest S < n → NoBlock (needOf S n) L)
+      (n ≤ largestItem S → (getD (L .lists) (classOf n) [] ≡ []) × NoBlock (pageNeed S (classOf n)) L)
+      × (largestItem S < n → NoBlock (needOf S n) L)
 
   abbrev pub NoRoomExactly : Type 0
   NoRoomExactly =

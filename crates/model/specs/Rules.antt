@@ -5,7 +5,8 @@ use mathlib.Core.List.{List, [], _∷_, _++_}
 use mathlib.Core.Option.{Option, none, some}
 use lib.ListN.{getD, set, replicate}
 use lib.Dec.{eqb, leb}
-use Rattle.model.specs.Shape.{Shape, start, tags, least, largest, item, holds, classOf, needOf, pageNeed, addressOf, offsetOf, itemAt}
+use Rattle.model.specs.Shape.{Shape, start, leastFree, largestItem, itemSize, itemCapacity, blockCapacity, classOf, needOf, pageNeed, addressOf, offsetOf, itemAt}
+use Rattle.model.specs.Parts.{firstItemAt}
 use Rattle.model.specs.Layout.{Slot, idle, held, Use, variable, page, Block, free, used, Layout, useSize, ends}
 use Rattle.model.specs.Sound.{idleSlots}
 
@@ -66,7 +67,7 @@ pub record Made : Type 0 where
 module _ (S : Shape) where
   -- Block of payload size p, with need = p + tags: `make` makes it from its size. The low end is used and the rest stays free, or the whole where the rest is too small
   unfoldable pub cut : ℕ → (ℕ → Block) → ℕ → List Block → List Block
-  cut need make s bs = cond (leb (need + least S) s) (make need ∷ free (s - need) ∷ bs) (make s ∷ bs)
+  cut need make s bs = cond (leb (need + leastFree S) s) (make need ∷ free (s - need) ∷ bs) (make s ∷ bs)
 
   abbrev pub placed : ℕ → (ℕ → Block) → Spot → List Block
   placed need make t = t .pre ++ cut need make (t .size) (t .post)
@@ -85,11 +86,11 @@ module _ (S : Shape) where
   -- the item whose header stands at q becomes s: among a page's items from p on, in a block in use at p, in blocks from p on
   unfoldable pub slotTo : Slot → ℕ → ℕ → ℕ → List Slot → List Slot
   slotTo s c q p [] = []
-  slotTo s c q p (x ∷ xs) = cond (eqb q p) s x ∷ slotTo s c q (p + item S c) xs
+  slotTo s c q p (x ∷ xs) = cond (eqb q p) s x ∷ slotTo s c q (p + itemSize S c) xs
 
   unfoldable pub useTo : Slot → ℕ → ℕ → Use → Use
   useTo s q p (variable t) = variable t
-  useTo s q p (page c k ss) = page c k (slotTo s c q (p + S .word) ss)
+  useTo s q p (page c k ss) = page c k (slotTo s c q (firstItemAt S p) ss)
 
   unfoldable pub itemTo : Slot → ℕ → ℕ → List Block → List Block
   itemTo s q p [] = []
@@ -105,7 +106,7 @@ module _ (S : Shape) where
 
   -- a page of class c is made where it fits, its items linked in rising order
   abbrev pub paged : ℕ → Spot → Layout → Layout
-  paged c t L = record { blocks = placed (pageNeed S c) (asPage c) t; lists = set (L .lists) c (idleSlots S c (spotAt t + S .word) (replicate (S .perPage c) idle)) }
+  paged c t L = record { blocks = placed (pageNeed S c) (asPage c) t; lists = set (L .lists) c (idleSlots S c (firstItemAt S (spotAt t)) (replicate (S .perPage c) idle)) }
 
   -- an item of class c from its list
   unfoldable pub fromList : ℕ → Layout → List ℕ → Option Made
@@ -132,14 +133,14 @@ module _ (S : Shape) where
   allocate n L =
       let small = anItem (classOf n) L (getD (L .lists) (classOf n) []) in
       let large = aBlock (needOf S n) L (fit (needOf S n) (L .blocks)) in
-      cond (leb n (largest S)) small large
+      cond (leb n (largestItem S)) small large
 
   -- what is live at address a
   unfoldable pub inSlots : ℕ → ℕ → ℕ → List Slot → Found
   inSlots a c p [] = nothing
-  inSlots a c p (idle ∷ ss) = inSlots a c (p + item S c) ss
+  inSlots a c p (idle ∷ ss) = inSlots a c (p + itemSize S c) ss
   inSlots a c p (held ∷ ss) =
-      let later = inSlots a c (p + item S c) ss in
+      let later = inSlots a c (p + itemSize S c) ss in
       cond (eqb a (addressOf S p)) (thing (offsetOf S p) c) later
 
   unfoldable pub findFrom : ℕ → ℕ → List Block → Found
@@ -149,7 +150,7 @@ module _ (S : Shape) where
       let later = behind (used (variable s)) (findFrom a (p + s) bs) in
       cond (eqb a (addressOf S p)) (block (record { pre = []; size = s; post = bs })) later
   findFrom a p (used (page c k ss) ∷ bs) =
-      orElse (inSlots a c (p + S .word) ss) (behind (used (page c k ss)) (findFrom a (p + useSize S (page c k ss)) bs))
+      orElse (inSlots a c (firstItemAt S p) ss) (behind (used (page c k ss)) (findFrom a (p + useSize S (page c k ss)) bs))
 
   abbrev pub find : ℕ → Layout → Found
   find a L = findFrom a (start S) (L .blocks)
@@ -162,13 +163,13 @@ module _ (S : Shape) where
 
   -- how many bytes it holds
   abbrev pub capacity : Found → ℕ
-  capacity (block t) = t .size - tags S
-  capacity (thing o c) = holds S c
+  capacity (block t) = blockCapacity S (t .size)
+  capacity (thing o c) = itemCapacity S c
   capacity nothing = 0
 
   -- Resize in place: a block that is large enough stays, its tail freed if a free block fits there; a smaller one grows over a free right neighbour if the two reach need
   unfoldable pub shrunk : ℕ → ℕ → List Block → List Block
-  shrunk need s bs = cond (leb (need + least S) s) (asVariable need ∷ before (free (s - need)) bs) (asVariable s ∷ bs)
+  shrunk need s bs = cond (leb (need + leastFree S) s) (asVariable need ∷ before (free (s - need)) bs) (asVariable s ∷ bs)
 
   unfoldable pub grown : ℕ → ℕ → List Block → Option (List Block)
   grown need s [] = none
@@ -182,12 +183,12 @@ module _ (S : Shape) where
   -- the layout where the record stays, or none where it moves
   unfoldable pub stays : ℕ → Found → Layout → Option Layout
   stays n nothing L = none
-  stays n (thing o c) L = cond (leb n (largest S) && eqb (classOf n) c) (some L) none
+  stays n (thing o c) L = cond (leb n (largestItem S) && eqb (classOf n) c) (some L) none
   stays n (block t) L =
       let need = needOf S n in
       let here = cond (leb need (t .size)) (some (shrunk need (t .size) (t .post))) (grown need (t .size) (t .post)) in
       let there = reshaped need t L here in
-      cond (leb n (largest S)) none there
+      cond (leb n (largestItem S)) none there
 
   -- Initialise: one free block from the data area's start to the end
   abbrev pub fresh : ℕ → Layout

@@ -26,9 +26,12 @@ shape w =
       magic = cond (eqb w 8) 0x01636f6c6c617978 0x02636f6c6c617978;
     }
 
--- document 01's heap
+-- document 01's heap, and the hand unit's
 abbrev pub wide : Shape
 wide = shape 8
+
+abbrev pub hand : Shape
+hand = shape 4
 
 -- the end of a heap of n bytes: n rounded down to a multiple of 8; and n rounded up to one
 abbrev pub endOf : ℕ → ℕ
@@ -50,38 +53,42 @@ module _ (S : Shape) where
   abbrev pub start : ℕ
   start = index + S .word * S .classes + S .word
 
-  -- where the header names the first free block
-  abbrev pub firstFreeAt : ℕ
-  firstFreeAt = 8 + 2 * S .word
-
   -- what a block's two tags take
   abbrev pub tags : ℕ
   tags = 2 * S .word
 
   -- the least free block, and the least remainder that stays free
-  abbrev pub least : ℕ
-  least = 4 * S .word
+  abbrev pub leastFree : ℕ
+  leastFree = 4 * S .word
+
+  -- the shortest heap: room for one free block
+  abbrev pub shortest : ℕ
+  shortest = start + leastFree
 
   -- the largest item's payload: a size above it has a block of its own
-  abbrev pub largest : ℕ
-  largest = 8 * S .classes
+  abbrev pub largestItem : ℕ
+  largestItem = 8 * S .classes
 
   -- what a block for a size needs, and the least of these
   abbrev pub needOf : ℕ → ℕ
   needOf n = up8 n + tags
 
-  abbrev pub leastTaken : ℕ
-  leastTaken = largest + 8 + tags
+  abbrev pub leastVariable : ℕ
+  leastVariable = largestItem + 8 + tags
 
   -- what an item of class c takes, with its header word; what it holds; and what a page of them needs
-  abbrev pub item : ℕ → ℕ
-  item c = 8 * c + 8 + S .word
+  abbrev pub itemSize : ℕ → ℕ
+  itemSize c = 8 * c + 8 + S .word
 
-  abbrev pub holds : ℕ → ℕ
-  holds c = 8 * c + 8
+  abbrev pub itemCapacity : ℕ → ℕ
+  itemCapacity c = 8 * c + 8
+
+  -- what a variable block of size s holds
+  abbrev pub blockCapacity : ℕ → ℕ
+  blockCapacity s = s - tags
 
   abbrev pub pageNeed : ℕ → ℕ
-  pageNeed c = tags + S .perPage c * item c
+  pageNeed c = tags + S .perPage c * itemSize c
 
   -- three ways of counting a place: the address of the payload behind the tag or header at position p, and back
   abbrev pub addressOf : ℕ → ℕ

@@ -7,7 +7,8 @@ use lib.ListN.{length, getD}
 use lib.Dec.{eqb}
 use Rattle.words.specs.Word.{wordAt}
 use Rattle.model.specs.Picture.{Shows}
-use Rattle.model.specs.Shape.{Shape, start, least, leastTaken, item, offsetOf, endOf}
+use Rattle.model.specs.Shape.{Shape, start, leastFree, leastVariable, itemSize, offsetOf, endOf}
+use Rattle.model.specs.Parts.{firstItemAt}
 use Rattle.model.specs.Layout.{Slot, idle, held, Use, variable, page, Block, free, used, Layout, ifFree, sizeOf, ends, words}
 
 -- how often o stands in a list
@@ -23,11 +24,11 @@ Apart d (b ∷ bs) = (d + ifFree b 1 0 ≤ 1) × Apart (ifFree b 1 0) bs
 module _ (S : Shape) where
   -- sizes and kinds are as allowed
   unfoldable pub AllowedUse : Use → Type 0
-  AllowedUse (variable s) = (leastTaken S ≤ s) × (s % 8 ≡ 0)
-  AllowedUse (page c spare slots) = (c < S .classes) × (length slots ≡ S .perPage c) × (spare < least S) × (spare % 8 ≡ 0)
+  AllowedUse (variable s) = (leastVariable S ≤ s) × (s % 8 ≡ 0)
+  AllowedUse (page c spare slots) = (c < S .classes) × (length slots ≡ S .perPage c) × (spare < leastFree S) × (spare % 8 ≡ 0)
 
   unfoldable pub Allowed : Block → Type 0
-  Allowed (free s) = (least S ≤ s) × (s % 8 ≡ 0)
+  Allowed (free s) = (leastFree S ≤ s) × (s % 8 ≡ 0)
   Allowed (used u) = AllowedUse u
 
   unfoldable pub AllAllowed : List Block → Type 0
@@ -37,14 +38,14 @@ module _ (S : Shape) where
   -- the offsets of the free items, rising, of a page's items from position p on
   unfoldable pub idleSlots : ℕ → ℕ → List Slot → List ℕ
   idleSlots c p [] = []
-  idleSlots c p (idle ∷ ss) = offsetOf S p ∷ idleSlots c (p + item S c) ss
-  idleSlots c p (held ∷ ss) = idleSlots c (p + item S c) ss
+  idleSlots c p (idle ∷ ss) = offsetOf S p ∷ idleSlots c (p + itemSize S c) ss
+  idleSlots c p (held ∷ ss) = idleSlots c (p + itemSize S c) ss
 
   -- the offsets of the free items of class c in a block at p, and in blocks from p on
   unfoldable pub idleIn : ℕ → ℕ → Block → List ℕ
   idleIn c p (free s) = []
   idleIn c p (used (variable s)) = []
-  idleIn c p (used (page d k ss)) = cond (eqb c d) (idleSlots d (p + S .word) ss) []
+  idleIn c p (used (page d k ss)) = cond (eqb c d) (idleSlots d (firstItemAt S p) ss) []
 
   unfoldable pub idleItems : ℕ → ℕ → List Block → List ℕ
   idleItems c p [] = []

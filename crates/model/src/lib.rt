@@ -2,7 +2,7 @@
 ghost use mathlib.Core.Path.{_≡_};
 ghost use Prim.Native.Nat.{_+_, _-_, _*_, _/_, _%_, _≤_, _<_, _^_};
 ghost use Rattle.words.specs.Width.{Width};
-ghost use Rattle.model.specs.Shape.{shape, start, classOf, needOf, item, pageNeed, addressOf, positionOf, offsetOf, itemAt};
+ghost use Rattle.model.specs.Shape.{shape, start, classOf, needOf, itemSize, pageNeed, addressOf, positionOf, offsetOf, itemAt};
 
 // The first eight bytes of an opened heap, as one word of eight bytes.
 pub fn magic(w: usize) -> usize
@@ -108,7 +108,7 @@ pub fn class_of(n: usize) -> usize
 // What an item of class c takes, with its header.
 pub fn item_size(w: usize, c: usize) -> usize
     requires { ⌜ Width w × (c < 4 * w) ⌝ }
-    ensures { λ r. ⌜ r ≡ item (shape w) c ⌝ }
+    ensures { λ r. ⌜ r ≡ itemSize (shape w) c ⌝ }
 {
     8 * c + 8 + w
 }

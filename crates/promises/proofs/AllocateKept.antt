@@ -16,9 +16,10 @@ use Rattle.model.specs.Live.{_∈_, Payload, live}
 use Rattle.model.specs.Refusals.{badSize, noRoom}
 use Rattle.model.specs.Calls.{Outcome, refused, granted, drawn, sized, allocated}
 use Rattle.model.specs.Promises.{Comes, Kept, OnlyNew, AllocateKeeps}
+use Rattle.model.proofs.Good.{shape-good}
 use Rattle.model.proofs.Sizes.{eight}
-use Rattle.model.proofs.Payloads.{content-kept}
-use Rattle.model.proofs.Allocation.{even, Granted, allocate-grants}
+use Rattle.model.proofs.lives.Payloads.{content-kept}
+use Rattle.model.proofs.rules.Allocation.{Granted, allocate-grants}
 use Rattle.sound.proofs.OneLayout.{one-layout}
 use Rattle.promises.proofs.Answers.{draws}
 
@@ -62,7 +63,7 @@ pub allocate-keeps : AllocateKeeps wide
 unfolding Comes
 allocate-keeps b n r L M g =
     let a = made-of b n L r (g .comes .sound (g .lent) L (g .here)) (g .granted) in
-    let k = allocate-grants wide (endOf (length b)) n (even eight) L (a .made) (g .here .valid) (a .some-byte) (a .found) in
+    let k = allocate-grants wide (endOf (length b)) n (shape-good eight) L (a .made) (g .here .valid) (a .some-byte) (a .found) in
     let h : Here wide (r .heap) (a .made .layout) = subst (λ (o : Outcome). Here wide (o .heap) (a .made .layout)) (sym (a .is)) (draws b L (g .lent) (g .here) (a .made .layout) (k .valid)) in
     subst (λ (N : Layout). AllocateKept b n L r N) (one-layout eight (r .heap) (a .made .layout) M h (g .then))
     (subst (λ (o : Outcome). AllocateKept b n L o (a .made .layout)) (sym (a .is)) (granted-kept b n L (a .made) k))

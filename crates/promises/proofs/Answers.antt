@@ -15,14 +15,15 @@ use Rattle.model.specs.Rules.{Made, Found, block, thing, nothing, allocate, fin
 use Rattle.model.specs.Refusals.{notLive}
 use Rattle.model.specs.Calls.{Outcome, refused, granted, Lent, drawn, sized, found, allocated, without}
 use Rattle.model.specs.Promises.{Call, initialising, checking, allocating, freeing, resizing, Comes, Plain}
+use Rattle.model.proofs.Good.{shape-good}
 use Rattle.model.proofs.Sizes.{eight}
-use Rattle.model.proofs.Pictures as pictures
-use Rattle.model.proofs.Pictures.{length-draw, bytes-draw}
-use Rattle.model.proofs.Drawn.{drawn-here}
-use Rattle.model.proofs.LiveFound.{isThere}
-use Rattle.model.proofs.FreeLives.{freed-removes}
-use Rattle.model.proofs.Allocation.{even, allocate-grants}
-use Rattle.model.proofs.OnLayouts.{Done, doing}
+use Rattle.model.proofs.pictures.Pictures as pictures
+use Rattle.model.proofs.pictures.Pictures.{length-draw, bytes-draw}
+use Rattle.model.proofs.pictures.Drawn.{drawn-here}
+use Rattle.model.proofs.lives.LiveFound.{isThere}
+use Rattle.model.proofs.lives.FreeLives.{freed-removes}
+use Rattle.model.proofs.rules.Allocation.{allocate-grants}
+use Rattle.model.proofs.rules.OnLayouts.{Done, doing}
 
 -- an outcome is what was done on the layout; where that stays, so does every byte
 pub record Does (b : List ℕ) (L : Layout) (r : Outcome) (d : Done) : Type 0 where
@@ -36,7 +37,7 @@ pub record Does (b : List ℕ) (L : Layout) (r : Outcome) (d : Done) : Type 0 wh
 module _ (b : List ℕ) (L : Layout) (l : Lent wide b) (h : Here wide b L) where
   -- a valid layout drawn is the heap's
   pub draws : (M : Layout) → Valid wide (endOf (length b)) M → Here wide (drawn wide M b) M
-  draws M v = drawn-here wide b M (h .magic) v (omega (arith, l .1))
+  draws M v = drawn-here wide (shape-good eight) b M (h .magic) v (omega (arith, l .1))
 
   pub drawn-length : (M : Layout) → length (drawn wide M b) ≡ length b
   drawn-length M = length-draw 8 (words wide (endOf (length b)) M) b
@@ -64,11 +65,11 @@ module _ (b : List ℕ) (L : Layout) (l : Lent wide b) (h : Here wide b L) where
       go (yes i) (no j) o e = rw (le-leb 1 n i, lt-leb n 1048576 (omega arith)) (left _ _)
       go (yes i) (yes j) none e = rw (le-leb 1 n i, le-leb n 1048576 j, e) (left _ _)
       go (yes i) (yes j) (some m) e =
-          let g = allocate-grants wide (endOf (length b)) n (even eight) L m (h .valid) i e in
+          let g = allocate-grants wide (endOf (length b)) n (shape-good eight) L m (h .valid) i e in
           rw (le-leb 1 n i, le-leb n 1048576 j, e) (drew _ (m .layout) (g .valid))
 
   freed-valid : (a : ℕ) (f : Found) → find wide a L ≡ f → isThere f ≡ 1 → Valid wide (endOf (length b)) (freed wide f L)
-  freed-valid a f e i = freed-removes wide (omega arith) (omega arith) (h .valid) a f e (λ n. omega (arith, i, ap isThere n)) .valid
+  freed-valid a f e i = freed-removes wide (shape-good eight) (h .valid) a f e (λ n. omega (arith, i, ap isThere n)) .valid
 
   freeing-does : (a : ℕ) → Does b L (found wide (find wide a L) (refused b notLive) (granted 0 (drawn wide (without wide a L) b))) (doing wide (freeing a) L)
   unfolding doing

@@ -9,12 +9,12 @@ use lib.ListN.{length, getD}
 use lib.Dec.{eqb, leb}
 use borrow.Author.Tests.{eq-eqb, ne-eqb, le-leb, lt-leb}
 use Rattle.words.specs.Word.{wordAt}
-use Rattle.model.specs.Shape.{wide, item, pageNeed, endOf}
+use Rattle.model.specs.Shape.{wide, itemSize, pageNeed, endOf}
 use Rattle.model.specs.Picture.{Word, Shows}
 use Rattle.model.specs.Layout.{Slot, idle, held, Use, variable, page, Block, free, used, Layout, ifFree, useSize, sizeOf, ends, words}
 use Rattle.model.specs.Sound.{times, Apart, AllowedUse, Allowed, AllAllowed, idleItems, Valid, Here, Sound}
 use Rattle.model.proofs.Sizes.{eight}
-use Rattle.model.proofs.Blocks.{le-ends}
+use Rattle.model.proofs.blocks.Blocks.{le-ends}
 use Rattle.sound.specs.Runs.{Slots, flagOf, Headers, Reads}
 use Rattle.sound.specs.Lists.{named, Chain, Chains}
 use Rattle.sound.proofs.MapLaws.{fewer}
@@ -31,22 +31,22 @@ module _ (b : List ℕ) where
   -- n items of class c from p on
   unfoldable slotsAt : ℕ → ℕ → ℕ → List Slot
   slotsAt c p zero = []
-  slotsAt c p (suc n) = cond (eqb (wordAt 8 b p % 4) 1) idle held ∷ slotsAt c (p + item wide c) n
+  slotsAt c p (suc n) = cond (eqb (wordAt 8 b p % 4) 1) idle held ∷ slotsAt c (p + itemSize wide c) n
 
   slots-are : (c p : ℕ) (ss : List Slot) → Slots 8 b c p ss → slotsAt c p (length ss) ≡ ss
   unfolding Slots slotsAt
   slots-are c p [] h = refl
-  slots-are c p (idle ∷ ss) h = rw (eq-eqb (wordAt 8 b p % 4) 1 (omega (arith, h .0)), slots-are c (p + item wide c) ss (h .1))
-  slots-are c p (held ∷ ss) h = rw (ne-eqb (wordAt 8 b p % 4) 1 (λ e. omega (arith, h .0)), slots-are c (p + item wide c) ss (h .1))
+  slots-are c p (idle ∷ ss) h = rw (eq-eqb (wordAt 8 b p % 4) 1 (omega (arith, h .0)), slots-are c (p + itemSize wide c) ss (h .1))
+  slots-are c p (held ∷ ss) h = rw (ne-eqb (wordAt 8 b p % 4) 1 (λ e. omega (arith, h .0)), slots-are c (p + itemSize wide c) ss (h .1))
 
   -- a block in use at p whose tag is t
   unfoldable pageAt : ℕ → ℕ → ℕ → Use
   pageAt c p t = page c (t - 3 - pageNeed wide c) (slotsAt c (p + 8) (wide .perPage c))
 
-  page-is : (c k p t : ℕ) (ss : List Slot) → Slots 8 b c (p + 8) ss → length ss ≡ wide .perPage c → t ≡ 16 + length ss * item wide c + k + 3 → pageAt c p t ≡ page c k ss
+  page-is : (c k p t : ℕ) (ss : List Slot) → Slots 8 b c (p + 8) ss → length ss ≡ wide .perPage c → t ≡ 16 + length ss * itemSize wide c + k + 3 → pageAt c p t ≡ page c k ss
   unfolding pageAt
   page-is c k p t ss h n f =
-      ap₂ (λ (x : ℕ) (y : List Slot). page c x y) (omega (arith, f, ap (λ (x : ℕ). x * item wide c) n))
+      ap₂ (λ (x : ℕ) (y : List Slot). page c x y) (omega (arith, f, ap (λ (x : ℕ). x * itemSize wide c) n))
       (ap (λ (x : ℕ). slotsAt c (p + 8) x) (sym n) ∙ slots-are c (p + 8) ss h)
 
   unfoldable useAt : ℕ → ℕ → Use

@@ -13,11 +13,11 @@ use Rattle.model.specs.Rules.{Made, Found, block, thing, nothing, allocate, fin
 use Rattle.model.specs.Refusals.{notLive, alreadyOpened}
 use Rattle.model.specs.Calls.{Outcome, refused, granted, Lent, sized, found, moved, resized}
 use Rattle.model.specs.Promises.{Call, initialising, checking, allocating, freeing, resizing, Comes}
+use Rattle.model.proofs.Good.{shape-good}
 use Rattle.model.proofs.Sizes.{eight}
-use Rattle.model.proofs.Allocation.{even}
-use Rattle.model.proofs.LiveFound.{isThere}
-use Rattle.model.proofs.StayLives.{stays-stayed}
-use Rattle.model.proofs.OnLayouts.{doing}
+use Rattle.model.proofs.lives.LiveFound.{isThere}
+use Rattle.model.proofs.lives.StayLives.{stays-stayed}
+use Rattle.model.proofs.rules.OnLayouts.{doing}
 use Rattle.promises.proofs.Answers.{Does, left, drew, does-same, answers}
 use Rattle.promises.proofs.Moved.{moved-does}
 
@@ -36,9 +36,9 @@ module _ (b : List ℕ) (L : Layout) (l : Lent wide b) (h : Here wide b L) where
       go (yes i) (no j) f e s k o m = rw (le-leb 1 n i, lt-leb n 1048576 (omega arith)) (left b L l h _ _)
       go (yes i) (yes j) nothing e s k o m = rw (le-leb 1 n i, le-leb n 1048576 j, e) (left b L l h _ _)
       go (yes i) (yes j) (block t) e (some M) k o m =
-          rw (le-leb 1 n i, le-leb n 1048576 j, k, e) (drew b L l h _ M (stays-stayed wide (even eight) (omega arith) n a i (h .valid) M k .valid))
+          rw (le-leb 1 n i, le-leb n 1048576 j, k, e) (drew b L l h _ M (stays-stayed wide (shape-good eight) n a i (h .valid) M k .valid))
       go (yes i) (yes j) (thing t c) e (some M) k o m =
-          rw (le-leb 1 n i, le-leb n 1048576 j, k, e) (drew b L l h _ M (stays-stayed wide (even eight) (omega arith) n a i (h .valid) M k .valid))
+          rw (le-leb 1 n i, le-leb n 1048576 j, k, e) (drew b L l h _ M (stays-stayed wide (shape-good eight) n a i (h .valid) M k .valid))
       go (yes i) (yes j) (block t) e none k none m = rw (le-leb 1 n i, le-leb n 1048576 j, k, m, e) (left b L l h _ _)
       go (yes i) (yes j) (thing t c) e none k none m = rw (le-leb 1 n i, le-leb n 1048576 j, k, m, e) (left b L l h _ _)
       go (yes i) (yes j) (block t) e none k (some x) m =

@@ -21,7 +21,7 @@ use Rattle.model.specs.Live.{_∈_}
 use Rattle.model.specs.Refusals.{badLength}
 use Rattle.model.specs.Calls.{Outcome, refused, Lent, Opened, Initialises}
 use Rattle.model.specs.Promises.{Call, initialising, checking, allocating, freeing, resizing, Comes, Answer}
-use Rattle.model.proofs.OnLayouts.{doing}
+use Rattle.model.proofs.rules.OnLayouts.{doing}
 use Rattle.promises.proofs.Opened.{opened-fresh}
 use Rattle.promises.proofs.Doing.{does}
 

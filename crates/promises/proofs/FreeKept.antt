@@ -13,12 +13,13 @@ use Rattle.model.specs.Live.{_∈_, Payload, live}
 use Rattle.model.specs.Refusals.{notLive}
 use Rattle.model.specs.Calls.{Outcome, refused, granted, drawn, found, without}
 use Rattle.model.specs.Promises.{Comes, Kept, FreeKeeps}
+use Rattle.model.proofs.Good.{shape-good}
 use Rattle.model.proofs.Sizes.{eight}
-use Rattle.model.proofs.Payloads.{content-kept}
+use Rattle.model.proofs.lives.Payloads.{content-kept}
 use Rattle.sound.proofs.OneLayout.{one-layout}
 use Rattle.promises.proofs.Answers.{draws}
-use Rattle.model.proofs.LiveFound.{isThere}
-use Rattle.model.proofs.FreeLives.{Removed, freed-removes}
+use Rattle.model.proofs.lives.LiveFound.{isThere}
+use Rattle.model.proofs.lives.FreeLives.{Removed, freed-removes}
 
 module _ (b : List ℕ) (a : ℕ) (L : Layout) where
   -- what is promised of an outcome and the layout then
@@ -44,7 +45,7 @@ free-keeps b a r L M g = go (find wide a L) refl
 
     freed-kept : (f : Found) → find wide a L ≡ f → (f ≡ nothing → ⊥) → r ≡ granted 0 (drawn wide (freed wide f L) b) → FreeKept b a L r M
     freed-kept f e n s =
-        let k = freed-removes wide (omega arith) (omega arith) (g .here .valid) a f e n in
+        let k = freed-removes wide (shape-good eight) (g .here .valid) a f e n in
         let h : Here wide (r .heap) (freed wide f L) = subst (λ (o : Outcome). Here wide (o .heap) (freed wide f L)) (sym s) (draws b L (g .lent) (g .here) (freed wide f L) (k .valid)) in
         subst (λ (N : Layout). FreeKept b a L r N) (one-layout eight (r .heap) (freed wide f L) M h (g .then))
         (subst (λ (o : Outcome). FreeKept b a L o (freed wide f L)) (sym s) (removed-kept b a L f k))

@@ -13,10 +13,10 @@ use Rattle.model.specs.Live.{_∈_}
 use Rattle.model.specs.Refusals.{noRoom}
 use Rattle.model.specs.Calls.{Outcome, Lent}
 use Rattle.model.specs.Promises.{Call, Comes, Written, Plain, Answer, Run, over, call, LongerAgrees}
-use Rattle.model.proofs.OnLayouts.{doing}
-use Rattle.model.proofs.Twins.{TwinLayouts, fresh-twins, doing-twins}
+use Rattle.model.proofs.rules.OnLayouts.{doing}
+use Rattle.model.proofs.rules.Twins.{TwinLayouts, fresh-twins, doing-twins}
 use Rattle.promises.proofs.Opened.{opened-fresh}
-use Rattle.model.proofs.Written.{written-here}
+use Rattle.model.proofs.pictures.Written.{written-here}
 use Rattle.promises.proofs.Answers.{answers}
 
 -- the first call of a run, and the rest

@@ -17,13 +17,14 @@ use Rattle.model.specs.Rules.{Made, Found, nothing, allocate, find, capacity}
 use Rattle.model.specs.Live.{_∈_, Payload, content, live}
 use Rattle.model.specs.Calls.{Outcome, granted, Lent, drawn, without}
 use Rattle.model.specs.Promises.{Kept, OnlyNew}
+use Rattle.model.proofs.Good.{shape-good}
 use Rattle.model.proofs.Sizes.{eight}
-use Rattle.model.proofs.Payloads.{in-area, content-kept}
-use Rattle.model.proofs.Allocation.{even, Granted, allocate-grants}
-use Rattle.model.proofs.Written.{kept-here}
+use Rattle.model.proofs.lives.Payloads.{in-area, content-kept}
+use Rattle.model.proofs.rules.Allocation.{Granted, allocate-grants}
+use Rattle.model.proofs.pictures.Written.{kept-here}
 use Rattle.promises.proofs.Answers.{Does, draws, drawn-length, drawn-bytes}
-use Rattle.model.proofs.LiveFound.{isThere, live-found, live-apart}
-use Rattle.model.proofs.FreeLives.{Removed, freed-removes}
+use Rattle.model.proofs.lives.LiveFound.{isThere, live-found, live-apart}
+use Rattle.model.proofs.lives.FreeLives.{Removed, freed-removes}
 use Rattle.promises.proofs.Parts.{take-take, part-moved}
 
 -- what is promised of a resize, of an outcome and the layout then
@@ -51,10 +52,10 @@ found-size end L a f r x h e =
 
 module _ (b : List ℕ) (L : Layout) (l : Lent wide b) (h : Here wide b L) (a n : ℕ) (one : 1 ≤ n) (m : Made) (fm : allocate wide n L ≡ some m) (live-there : isThere (find wide a L) ≡ 1) where
   new : Granted wide (endOf (length b)) n L m
-  new = allocate-grants wide (endOf (length b)) n (even eight) L m (h .valid) one fm
+  new = allocate-grants wide (endOf (length b)) n (shape-good eight) L m (h .valid) one fm
 
   was : Removed wide (endOf (length b)) L a (find wide a L)
-  was = freed-removes wide (omega arith) (omega arith) (h .valid) a (find wide a L) refl (is-there (find wide a L) live-there)
+  was = freed-removes wide (shape-good eight) (h .valid) a (find wide a L) refl (is-there (find wide a L) live-there)
 
   -- the bytes with the new record, and with what it takes over
   abbrev K : Layout
@@ -95,7 +96,7 @@ module _ (b : List ℕ) (L : Layout) (l : Lent wide b) (h : Here wide b L) (a n 
   copied-lent = (omega (arith, copied-length, l .0), omega (arith, copied-length, l .1))
 
   gone : Removed wide (endOf (length copiedBytes)) K a (find wide a K)
-  gone = freed-removes wide (omega arith) (omega arith) (copied-here .valid) a (find wide a K) refl (is-there (find wide a K) (live-found wide K a (was .payload) old-in (was .at)))
+  gone = freed-removes wide (shape-good eight) (copied-here .valid) a (find wide a K) refl (is-there (find wide a K) (live-found wide K a (was .payload) old-in (was .at)))
 
   pub moved-here : Here wide (drawn wide (without wide a (m .layout)) copiedBytes) (without wide a (m .layout))
   moved-here = draws copiedBytes K copied-lent copied-here (without wide a K) (gone .valid)

@@ -14,8 +14,8 @@ use Rattle.model.specs.Live.{_∈_, Payload, live}
 use Rattle.model.specs.Refusals.{noRoom, notLive}
 use Rattle.model.specs.Calls.{Outcome, refused, drawn, found, made, resized, allocated, moved, Allocates, Resizes}
 use Rattle.model.specs.Promises.{NoRoom, NoRoomExactly}
-use Rattle.model.proofs.LiveFound.{isThere, live-found}
-use Rattle.model.proofs.Room.{no-room}
+use Rattle.model.proofs.lives.LiveFound.{isThere, live-found}
+use Rattle.model.proofs.rules.Room.{no-room}
 
 module _ (b : List ℕ) where
   -- of an allocation, and of a resize of what was found

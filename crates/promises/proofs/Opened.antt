@@ -15,8 +15,8 @@ use Rattle.model.specs.Rules.{fresh}
 use Rattle.model.specs.Calls.{Outcome, Lent, Opened, drawn, Initialises}
 use Rattle.model.specs.Promises.{OpensSound}
 use Rattle.model.proofs.Sizes.{eight}
-use Rattle.model.proofs.Pictures.{length-draw, bytes-draw}
-use Rattle.model.proofs.Fresh.{fresh-here}
+use Rattle.model.proofs.pictures.Pictures.{length-draw, bytes-draw}
+use Rattle.model.proofs.rules.Fresh.{fresh-here}
 
 -- what a granted initialise leaves
 pub record Fresh (b : List ℕ) (r : Outcome) : Type 0 where

@@ -16,13 +16,13 @@ use Rattle.model.specs.Rules.{Made, Found, block, thing, nothing, allocate, fin
 use Rattle.model.specs.Refusals.{badSize, notLive, noRoom}
 use Rattle.model.specs.Calls.{Outcome, refused, granted, Lent, drawn, found, without, resized, moved, Resizes}
 use Rattle.model.specs.Promises.{Comes, ResizeKeeps}
+use Rattle.model.proofs.Good.{shape-good}
 use Rattle.model.proofs.Sizes.{eight}
-use Rattle.model.proofs.Payloads.{content-kept}
-use Rattle.model.proofs.Allocation.{even}
+use Rattle.model.proofs.lives.Payloads.{content-kept}
 use Rattle.sound.proofs.OneLayout.{one-layout}
 use Rattle.promises.proofs.Answers.{draws}
-use Rattle.model.proofs.LiveFound.{isThere}
-use Rattle.model.proofs.StayLives.{Stayed, stays-stayed}
+use Rattle.model.proofs.lives.LiveFound.{isThere}
+use Rattle.model.proofs.lives.StayLives.{Stayed, stays-stayed}
 use Rattle.promises.proofs.Parts.{take-take}
 use Rattle.promises.proofs.Moved.{ResizeKept, moved-here, moved-kept}
 
@@ -71,7 +71,7 @@ module _ (b : List ℕ) (a n : ℕ) (L : Layout) (r : Outcome) (l : Lent wide b)
       go : (o : Option Layout) → stays wide n (find wide a L) L ≡ o → ResizedTo b a n L r
       go none k = moves one there (rw k at e)
       go (some M) k =
-          let s = stays-stayed wide (even eight) (omega arith) n a one (h .valid) M k in
+          let s = stays-stayed wide (shape-good eight) n a one (h .valid) M k in
           resized-as (granted a (drawn wide M b)) M (rw k at e) (draws b L l h M (s .valid)) (stayed-kept b a n L M s)
 
   pub resize-result : Resizes wide b a n r → ResizedTo b a n L r

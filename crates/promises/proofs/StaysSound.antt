@@ -10,7 +10,7 @@ use Rattle.model.specs.Layout.{Layout}
 use Rattle.model.specs.Sound.{Here, Sound}
 use Rattle.model.specs.Calls.{Outcome, refused, Lent, Checked}
 use Rattle.model.specs.Promises.{Call, initialising, checking, allocating, freeing, resizing, Comes, StaysSound}
-use Rattle.model.proofs.OnLayouts.{doing}
+use Rattle.model.proofs.rules.OnLayouts.{doing}
 use Rattle.promises.proofs.Refused.{refused-untouched}
 use Rattle.promises.proofs.Opened.{opens-sound}
 use Rattle.promises.proofs.Answers.{answers}

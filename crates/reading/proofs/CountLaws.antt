@@ -7,7 +7,7 @@ use Rattle.words.specs.Word.{wordAt}
 use Rattle.model.specs.Shape.{endOf}
 use Rattle.model.specs.Layout.{Slot}
 use Rattle.model.specs.Reading.{Statistics, counted}
-use Rattle.model.proofs.Totals.{counted-below, counted-free, counted-variable, counted-page}
+use Rattle.model.proofs.walks.Totals.{counted-below, counted-free, counted-variable, counted-page}
 use Rattle.reading.specs.declared.counting.Page.{Page}
 use Rattle.reading.specs.Counting.{PageAt, PageTold, Going}
 use Rattle.reading.proofs.ReadingLaws.{going-some, going-free, going-variable, going-page}

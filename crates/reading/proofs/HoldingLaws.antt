@@ -5,11 +5,11 @@ use mathlib.Core.List.{List}
 use native.Mathlib.Omega.{arith}
 use lib.ListN.{length}
 use Rattle.words.specs.Width.{Width}
-use Rattle.model.specs.Shape.{shape, offsetOf, endOf, leastTaken, start}
+use Rattle.model.specs.Shape.{shape, offsetOf, endOf, leastVariable, start}
 use Rattle.model.specs.Layout.{Layout, ends}
 use Rattle.model.specs.Sound.{Here, Sound}
 use Rattle.model.specs.Rules.{Found, block, thing, find, capacity}
-use Rattle.model.proofs.Holding.{EndsBy, find-by}
+use Rattle.model.proofs.lives.Holding.{EndsBy, find-by}
 use Rattle.model.specs.declared.Position.{Position}
 use Rattle.find.specs.declared.Block.{Block}
 use Rattle.find.specs.declared.Live.{Live}
@@ -51,7 +51,7 @@ module _ {w : ℕ} (wd : Width w) (b : List ℕ) (a : ℕ) (k : Sound (shape w) 
         }
 
   module _ (y : Block) (e : x ≡ Variable y) where
-    pub block-fits : (leastTaken (shape w) ≤ y .size) × (a + (y .size - 2 * w) ≤ endOf (length b))
+    pub block-fits : (leastVariable (shape w) ≤ y .size) × (a + (y .size - 2 * w) ≤ endOf (length b))
     unfolding Finds EndsBy
     block-fits =
         let g = found-as (Variable y) e (k .layout) (k .here) in

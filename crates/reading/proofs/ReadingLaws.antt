@@ -9,17 +9,18 @@ use lib.Dec.{eqb}
 use borrow.Author.Tests.{eq-eqb, ne-eqb}
 use Rattle.words.specs.Width.{Width}
 use Rattle.words.specs.Word.{wordAt}
-use Rattle.model.specs.Shape.{shape, item, offsetOf, endOf, start}
+use Rattle.model.specs.Shape.{shape, itemSize, offsetOf, endOf, start}
 use Rattle.model.specs.Picture.{Shows}
 use Rattle.model.specs.Layout.{Slot, idle, held, variable, page, Block, free, used, Layout, nextOf, useSize, sizeOf, ends, header, slotWords, useWords, own}
 use Rattle.model.specs.Sound.{Allowed, AllowedUse, AllAllowed, Here, Sound}
 use Rattle.model.specs.Reading.{heldIn}
-use Rattle.model.proofs.Pictures.{shows-left}
-use Rattle.model.proofs.Standing.{tagOf, PageThere, sized, is-variable, is-free, is-page}
-use Rattle.model.proofs.Aligned.{next-aligned, class-read}
-use Rattle.model.proofs.Passing.{stands, passed-allowed, Gone, gone-start, gone-on, gone-done}
+use Rattle.model.proofs.pictures.Pictures.{shows-left}
+use Rattle.model.proofs.walks.Standing.{blockTag, PageThere, sized, is-variable, is-free, is-page}
+use Rattle.model.proofs.items.Aligned.{next-aligned, class-read}
+use Rattle.model.proofs.walks.Passing.{stands, passed-allowed, gone-start, gone-on, gone-done}
+use Rattle.model.specs.inner.Walks.{Gone}
 use Rattle.model.proofs.Sizes.{per-page-bound}
-use Rattle.model.proofs.Totals.{held-few}
+use Rattle.model.proofs.walks.Totals.{held-few}
 use Rattle.reading.specs.declared.counting.Page.{Page}
 use Rattle.reading.specs.Counting.{heldFrom, PageAt, AtPage, PageTold, Going}
 
@@ -27,27 +28,27 @@ use Rattle.reading.specs.Counting.{heldFrom, PageAt, AtPage, PageTold, G
 held-read : (w : ℕ) (b l : List ℕ) (c : ℕ) → (q : ℕ) (ss : List Slot) → Shows w b (slotWords (shape w) c l q ss) → heldFrom w b c q (length ss) ≡ heldIn ss
 unfolding slotWords header Shows heldFrom heldIn
 held-read w b l c q [] s = refl
-held-read w b l c q (idle ∷ ss) s = rw (ne-eqb (wordAt w b q) (4 * c + 3) (λ e. omega (arith, s .0))) (omega (arith, held-read w b l c (q + item (shape w) c) ss (s .1)))
-held-read w b l c q (held ∷ ss) s = rw (eq-eqb (wordAt w b q) (4 * c + 3) (s .0)) (omega (arith, held-read w b l c (q + item (shape w) c) ss (s .1)))
+held-read w b l c q (idle ∷ ss) s = rw (ne-eqb (wordAt w b q) (4 * c + 3) (λ e. omega (arith, s .0))) (omega (arith, held-read w b l c (q + itemSize (shape w) c) ss (s .1)))
+held-read w b l c q (held ∷ ss) s = rw (eq-eqb (wordAt w b q) (4 * c + 3) (s .0)) (omega (arith, held-read w b l c (q + itemSize (shape w) c) ss (s .1)))
 
 -- counting them, item by item
 pub record Held (w : ℕ) (b : List ℕ) (c first n size q left held : ℕ) : Type 0 where
   pub width : Width w
   pub few : c < 4 * w
-  pub item-size : size ≡ item (shape w) c
+  pub item-size : size ≡ itemSize (shape w) c
   pub small : held + left ≤ n
   pub many : n ≤ 4097
-  pub room : q + left * item (shape w) c ≤ length b
+  pub room : q + left * itemSize (shape w) c ≤ length b
   pub rest : held + heldFrom w b c q left ≡ heldFrom w b c first n
 
-pub held-start : {w : ℕ} → Width w → (b : List ℕ) (c first n size : ℕ) → c < 4 * w → n ≤ 4097 → first + n * item (shape w) c ≤ length b → size ≡ item (shape w) c → Held w b c first n size first n 0
+pub held-start : {w : ℕ} → Width w → (b : List ℕ) (c first n size : ℕ) → c < 4 * w → n ≤ 4097 → first + n * itemSize (shape w) c ≤ length b → size ≡ itemSize (shape w) c → Held w b c first n size first n 0
 held-start wd b c first n size l m r e = record { width = wd; few = l; item-size = e; small = omega arith; many = m; room = r; rest = omega arith }
 
-held-turn : (w : ℕ) (b : List ℕ) (c q left : ℕ) → (left ≡ 0 → ⊥) → heldFrom w b c q left ≡ cond (eqb (wordAt w b q) (4 * c + 3)) 1 0 + heldFrom w b c (q + item (shape w) c) (left - 1)
+held-turn : (w : ℕ) (b : List ℕ) (c q left : ℕ) → (left ≡ 0 → ⊥) → heldFrom w b c q left ≡ cond (eqb (wordAt w b q) (4 * c + 3)) 1 0 + heldFrom w b c (q + itemSize (shape w) c) (left - 1)
 unfolding heldFrom
 held-turn w b c q left l = go (left - 1) (omega arith) refl
   where
-    go : (k : ℕ) → left ≡ suc k → left - 1 ≡ k → heldFrom w b c q left ≡ cond (eqb (wordAt w b q) (4 * c + 3)) 1 0 + heldFrom w b c (q + item (shape w) c) (left - 1)
+    go : (k : ℕ) → left ≡ suc k → left - 1 ≡ k → heldFrom w b c q left ≡ cond (eqb (wordAt w b q) (4 * c + 3)) 1 0 + heldFrom w b c (q + itemSize (shape w) c) (left - 1)
     go k e f = rw (f, e)
 
 one-less : (left s : ℕ) → (left ≡ 0 → ⊥) → s + (left - 1) * s ≡ left * s
@@ -62,10 +63,10 @@ cond-one false = omega arith
 
 module _ {w : ℕ} {b : List ℕ} {c first n size q left held : ℕ} (i : Held w b c first n size q left held) where
   pub held-inside : (left ≡ 0 → ⊥) → q + w ≤ length b
-  held-inside l = omega (arith, i .room, one-less left (item (shape w) c) l)
+  held-inside l = omega (arith, i .room, one-less left (itemSize (shape w) c) l)
 
   pub held-next : (left ≡ 0 → ⊥) → q + size ≤ length b
-  held-next l = omega (arith, i .room, i .item-size, one-less left (item (shape w) c) l)
+  held-next l = omega (arith, i .room, i .item-size, one-less left (itemSize (shape w) c) l)
 
   pub held-again : (left ≡ 0 → ⊥) → (x y : ℕ) → x ≡ wordAt w b q → y ≡ cond (eqb x (4 * c + 3)) 1 0 → Held w b c first n size (q + size) (left - 1) (held + y)
   held-again l x y e f =
@@ -77,7 +78,7 @@ module _ {w : ℕ} {b : List ℕ} {c first n size q left held : ℕ} (i : Held w
         item-size = refl;
         small = omega (arith, i .small, z, cond-one (eqb (wordAt w b q) (4 * c + 3)));
         many = i .many;
-        room = omega (arith, i .room, one-less left (item (shape w) c) l);
+        room = omega (arith, i .room, one-less left (itemSize (shape w) c) l);
         rest = omega (arith, i .rest, held-turn w b c q left l);
       }
 
@@ -94,13 +95,13 @@ module _ {w : ℕ} {b : List ℕ} {p c k : ℕ} {ss : List Slot} (a : PageAt w b
       go [] n s = absurd (omega (arith, per-page-bound (a .width) c))
       go (y ∷ ss) n s = class-read (a .width) b (a .list) c (a .few) (a .aligned) (p + w) y ss s
 
-  pub page-room : p + 2 * w + shape w .perPage c * item (shape w) c ≤ endOf (length b)
+  pub page-room : p + 2 * w + shape w .perPage c * itemSize (shape w) c ≤ endOf (length b)
   unfolding useSize
-  page-room = let i : p + (2 * w + shape w .perPage c * item (shape w) c + k) ≤ endOf (length b) = rw (a .count) at (a .inside) in omega (arith, i)
+  page-room = let i : p + (2 * w + shape w .perPage c * itemSize (shape w) c + k) ≤ endOf (length b) = rw (a .count) at (a .inside) in omega (arith, i)
 
   -- x is the first header, d the class that it says and n the items' number, as code works them out
   module _ (x d n : ℕ) (e : x ≡ wordAt w b (p + w)) (ed : d ≡ x % (16 * w) / 4) (en : n ≡ shape w .perPage d) where
-    pub page-numbers : (d < 4 * w) × (n ≤ 4097) × (p + w + n * item (shape w) d ≤ length b)
+    pub page-numbers : (d < 4 * w) × (n ≤ 4097) × (p + w + n * itemSize (shape w) d ≤ length b)
     page-numbers = rw (en, page-class x d e ed) (a .few, per-page-bound (a .width) c .1, omega (arith, page-room))
 
     pub page-told : (m : ℕ) → m ≡ heldFrom w b d (p + w) n → PageTold (record { class = d; held = m; idle = n - m }) c ss
@@ -180,7 +181,7 @@ module _ {A : Type 0} {w : ℕ} (f : List Block → A) where
 
         -- a page's tag has flag 3
         pub page-flag : t % 8 ≡ 3
-        unfolding tagOf sizeOf
+        unfolding blockTag sizeOf
         page-flag = let q = page-there (g .sound .layout) (g .sound .here) in omega (arith, q .met .tag, q .met .eight)
 
         pub going-at-page : AtPage w b p

@@ -14,10 +14,11 @@ use Rattle.model.specs.Picture.{Shows}
 use Rattle.model.specs.Layout.{variable, page, Block, free, used, Layout, ifFree, useSize, sizeOf, own}
 use Rattle.model.specs.Sound.{Here, Sound}
 use Rattle.model.specs.Reading.{Kind, aFree, aVariable, aPage, kindOf, ended, stepFrom, step}
-use Rattle.model.proofs.Blocks.{lastFree, last-append}
-use Rattle.model.proofs.Standing.{sized, size-is, there, met, is-variable, is-free}
-use Rattle.model.proofs.Passing.{Passed, pass-start, stands, pass}
-use Rattle.model.proofs.Steps.{step-here, step-over, step-below, walk-ends}
+use Rattle.model.proofs.blocks.Blocks.{last-append}
+use Rattle.model.specs.inner.Walks.{lastFree, Passed}
+use Rattle.model.proofs.walks.Standing.{sized, size-is, there, met, is-variable, is-free}
+use Rattle.model.proofs.walks.Passing.{pass-start, stands, pass}
+use Rattle.model.proofs.walks.Steps.{step-here, step-over, step-below, walk-ends}
 use Rattle.reading.specs.Counting.{Going}
 use Rattle.reading.specs.Stepping.{Toward, Towards, StartTold}
 use Rattle.reading.proofs.ReadingLaws.{page-class, page-there, there-at}

@@ -14,7 +14,7 @@ use Rattle.model.specs.Shape.{shape, endOf}
 use Rattle.model.specs.Layout.{Slot, variable, page, Block, free, used}
 use Rattle.model.specs.Sound.{Allowed, AllowedUse, AllAllowed}
 use Rattle.model.specs.Reading.{total, heldIn, ofBlock, ofPage, row, rowsFrom, table}
-use Rattle.model.proofs.Totals.{row-below, rows-free, rows-variable, rows-page, row-page, rows-get}
+use Rattle.model.proofs.walks.Totals.{row-below, rows-free, rows-variable, rows-page, row-page, rows-get}
 use Rattle.reading.specs.declared.counting.Page.{Page}
 use Rattle.reading.specs.Counting.{PageAt, PageTold, Going, rowAnd}
 use Rattle.reading.proofs.ReadingLaws.{page-flag, going-some, going-free, going-variable, going-page}

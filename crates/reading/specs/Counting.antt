@@ -7,20 +7,20 @@ use lib.ListN.{length, getD}
 use lib.Dec.{eqb}
 use Rattle.words.specs.Width.{Width}
 use Rattle.words.specs.Word.{wordAt}
-use Rattle.model.specs.Shape.{shape, item, endOf}
+use Rattle.model.specs.Shape.{shape, itemSize, endOf}
 use Rattle.model.specs.Picture.{Shows}
 use Rattle.model.specs.Layout.{Slot, page, Block, Layout, nextOf, useSize, slotWords}
 use Rattle.model.specs.Sound.{Here, Sound}
 use Rattle.model.specs.Reading as reading
 use Rattle.model.specs.Reading.{heldIn}
-use Rattle.model.proofs.Passing.{Gone}
+use Rattle.model.specs.inner.Walks.{Gone}
 use Rattle.reading.specs.declared.counting.Page.{Page}
 use Rattle.reading.specs.declared.counting.Statistics.{Statistics}
 
 -- how many of n items of class c, with their headers from q on, say that they are in use
 unfoldable pub heldFrom : ℕ → List ℕ → ℕ → ℕ → ℕ → ℕ
 heldFrom w b c q zero = 0
-heldFrom w b c q (suc n) = cond (eqb (wordAt w b q) (4 * c + 3)) 1 0 + heldFrom w b c (q + item (shape w) c) n
+heldFrom w b c q (suc n) = cond (eqb (wordAt w b q) (4 * c + 3)) 1 0 + heldFrom w b c (q + itemSize (shape w) c) n
 
 -- a page of class c with the items ss stands at p; its free items are listed in l
 pub record PageAt (w : ℕ) (b : List ℕ) (p c k : ℕ) (ss : List Slot) : Type 0 where

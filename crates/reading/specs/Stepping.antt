@@ -11,8 +11,7 @@ use Rattle.model.specs.Layout as layout
 use Rattle.model.specs.Sound.{Here, Sound}
 use Rattle.model.specs.Reading.{aFree, aVariable, aPage, theEnd, Step, ended, stepFrom, step}
 use Rattle.model.specs.Reading as reading
-use Rattle.model.proofs.Blocks.{lastFree}
-use Rattle.model.proofs.Passing.{Passed}
+use Rattle.model.specs.inner.Walks.{lastFree, Passed}
 use Rattle.reading.specs.declared.stepping.Kind.{Kind}
 use Rattle.reading.specs.declared.stepping.Kind.the-variants.{Free, Variable, Page, End}
 use Rattle.reading.specs.declared.stepping.Block.{Block}

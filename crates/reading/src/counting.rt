@@ -13,7 +13,7 @@ ghost use lib.Dec.{eqb};
 ghost use lib.ListN.{length};
 ghost use Rattle.words.specs.Width.{Width};
 ghost use Rattle.words.specs.Word.{wordAt};
-ghost use Rattle.model.specs.Shape.{shape, item, endOf};
+ghost use Rattle.model.specs.Shape.{shape, itemSize, endOf};
 ghost use Rattle.model.specs.Layout.{Layout, Slot};
 ghost use Rattle.model.specs.Sound.{Here, Sound};
 ghost use Rattle.model.specs.Reading.{counted, rowsFrom};
@@ -58,7 +58,7 @@ fn larger(a: u64, b: u64) -> u64
 
 // How many of n items of class c, with their headers from `first` on, are in use.
 fn count_held(w: usize, h: &[u8], first: Position, c: usize, n: usize) -> u64
-    requires { ⌜ Width w × (c < 4 * w) × (n ≤ 4097) × (first .0 + n * item (shape w) c ≤ length (now h)) ⌝ }
+    requires { ⌜ Width w × (c < 4 * w) × (n ≤ 4097) × (first .0 + n * itemSize (shape w) c ≤ length (now h)) ⌝ }
     ensures { λ r. ⌜ (r ≡ heldFrom w (now (h .entry)) c (first .0) n) × (r ≤ n) ⌝ }
 {
     let size = item_size(w, c);

@@ -11,9 +11,11 @@ use Rattle.model.specs.Layout.{Layout}
 use Rattle.model.specs.Sound.{Here}
 use Rattle.model.specs.Rules.{Spot, Found, freed}
 use Rattle.model.specs.Calls.{drawn}
-use Rattle.model.proofs.Middle.{backOf}
-use Rattle.model.proofs.Finding.{block-found}
-use Rattle.model.proofs.Mending.{Stands, Mend, allocate-mends}
+use Rattle.model.specs.inner.Links.{backOf}
+use Rattle.model.proofs.Good.{shape-good}
+use Rattle.model.proofs.walks.Finding.{block-found}
+use Rattle.model.proofs.blocks.Mending.{allocate-mends}
+use Rattle.model.specs.inner.Walks.{Stands, Mend}
 use Rattle.find.specs.declared.Block.{Block}
 use Rattle.engine.specs.declared.allocate.Taken.{Taken}
 use Rattle.engine.specs.declared.allocate.Taken.the-variants.{At}
@@ -38,7 +40,7 @@ module _ {w : ℕ} {b : List ℕ} {a n : ℕ} {x : Block} (i : BlockAt w b a x) 
   unfolding after
   mends L h =
       let m = chosen g (block-holds i) s new e L h in
-      allocate-mends (shape w) (omega arith) (endOf (length b)) n L (h .valid) (x .at .0) (x .size) (x .prev .0) (x .left) before (found-stands (i .ready .width) b L a (i .is L h .0) x h (i .is L h .1)) (read-before i r before er eb L h) (m .0) (m .1)
+      allocate-mends (shape w) (shape-good (i .ready .width)) (endOf (length b)) n L (h .valid) (x .at .0) (x .size) (x .prev .0) (x .left) before (found-stands (i .ready .width) b L a (i .is L h .0) x h (i .is L h .1)) (read-before i r before er eb L h) (m .0) (m .1)
 
   pub mendable : Mendable w c x before
   mendable = let L = i .ready .sound .layout in let h = i .ready .sound .here in record { width = i .ready .width; layout = after L h; here = here-after L h; mend = mends L h }
@@ -47,7 +49,7 @@ module _ {w : ℕ} {b : List ℕ} {a n : ℕ} {x : Block} (i : BlockAt w b a x) 
     again : (L : Layout) (h : Here (shape w) b L) → (t : Spot) × BlockFound w (after L h) a t y
     again L h =
         let f = i .is L h in
-        let k = block-found (shape w) (omega arith) a (start (shape w)) (L .blocks) (f .0) (f .1 .found) in
+        let k = block-found (shape w) (shape-good (i .ready .width)) a (start (shape w)) (L .blocks) (f .0) (f .1 .found) in
         let st : Stands (shape w) (after L h) (x .at .0) (x .size) (y .prev .0) (y .left) = y′ .stands (after L h) (here-after L h) (mends L h) in
         stands-found (i .ready .width) c (after L h) a y (here-after L h) (omega (arith, k .at, f .1 .at, y′ .at)) (rw (y′ .at, y′ .size) st)
 

@@ -13,11 +13,14 @@ use Rattle.model.specs.Shape.{shape, start}
 use Rattle.model.specs.Layout.{Use, variable, page, Block, free, used, Layout, useSize, sizeOf, ends, firstFree}
 use Rattle.model.specs.Sound.{AllAllowed, Here}
 use Rattle.model.specs.Rules.{Spot, Found, block, find, findFrom}
-use Rattle.model.proofs.Blocks.{lastFree, ends-append, le-ends, allowed-left}
-use Rattle.model.proofs.Middle.{backOf, middle-at, free-read}
-use Rattle.model.proofs.Standing.{Met, met, tagOf}
-use Rattle.model.proofs.Finding.{behinds, find-past, find-at}
-use Rattle.model.proofs.Mending.{NoFree, Last, last-of, Stands, Mend, Before}
+use Rattle.model.proofs.Good.{shape-good}
+use Rattle.model.proofs.blocks.Blocks.{ends-append, le-ends, allowed-left}
+use Rattle.model.specs.inner.Walks.{lastFree, Stands, Mend}
+use Rattle.model.proofs.blocks.Middle.{middle-at, free-read}
+use Rattle.model.specs.inner.Links.{backOf}
+use Rattle.model.proofs.walks.Standing.{Met, met, blockTag}
+use Rattle.model.proofs.walks.Finding.{behinds, find-past, find-at}
+use Rattle.model.proofs.blocks.Mending.{NoFree, Last, last-of, Before}
 use Rattle.find.specs.declared.Block as seen
 use Rattle.links.specs.Links.{BackRoom}
 use Rattle.find.specs.Find.{BlockFound}
@@ -32,11 +35,11 @@ module _ {w : ℕ} (wd : Width w) {b : List ℕ} {L : Layout} (h : Here (shape w
 
   -- a free block's tag is its size, a multiple of 8; that of a block in use is none, and says the size too
   free-tag : (low : List Block) (k : ℕ) (rest : List Block) (q : ℕ) → L .blocks ≡ low ++ (free k ∷ rest) → ends (shape w) (start (shape w)) low ≡ q → (wordAt w b q % 8 ≡ 0) × (4 * w ≤ wordAt w b q) × (q + wordAt w b q ≤ length b)
-  unfolding tagOf sizeOf
+  unfolding blockTag sizeOf
   free-tag low k rest q e at = let m = read-at low (free k) rest q e at in (omega (arith, m .tag, m .eight), omega (arith, m .tag, m .least), omega (arith, m .tag, m .inside))
 
   used-tag : (low : List Block) (u : Use) (rest : List Block) (q : ℕ) → L .blocks ≡ low ++ (used u ∷ rest) → ends (shape w) (start (shape w)) low ≡ q → (t : ℕ) → t ≡ wordAt w b q → (t % 8 ≡ 0 → ⊥) × (t / 8 * 8 ≡ useSize (shape w) u) × (q + 4 * w ≤ length b)
-  unfolding tagOf sizeOf
+  unfolding blockTag sizeOf
   used-tag low u rest q e at t et = go u (read-at low (used u) rest q e at)
     where
       go : (u : Use) → Met w b L q (lastFree (shape w) (start (shape w)) low 0) (used u) rest → (t % 8 ≡ 0 → ⊥) × (t / 8 * 8 ≡ useSize (shape w) u) × (q + 4 * w ≤ length b)
@@ -182,8 +185,8 @@ stands-found {w} wd b L a x h e k =
     let all : AllAllowed (shape w) (k .pre ++ post) = subst (λ (l : List Block). AllAllowed (shape w) l) (k .blocks) (h .valid .allowed) in
     let from : find (shape w) a L ≡ findFrom (shape w) a (start (shape w)) (k .pre ++ post) = ap (λ (l : List Block). findFrom (shape w) a (start (shape w)) l) (k .blocks) in
     let past : findFrom (shape w) a (start (shape w)) (k .pre ++ post) ≡ behinds (k .pre) (findFrom (shape w) a (ends (shape w) (start (shape w)) (k .pre)) post) =
-    find-past (shape w) (omega arith) a (start (shape w)) (k .pre) post (allowed-left (shape w) (k .pre) post all) (omega (arith, k .begins)) in
-    let at : findFrom (shape w) a (ends (shape w) (start (shape w)) (k .pre)) post ≡ block (record { pre = []; size = x .size; post = k .post }) = find-at (shape w) (omega arith) a (ends (shape w) (start (shape w)) (k .pre)) (x .size) (k .post) (omega (arith, k .begins)) in (
+    find-past (shape w) (shape-good wd) a (start (shape w)) (k .pre) post (allowed-left (shape w) (k .pre) post all) (omega (arith, k .begins)) in
+    let at : findFrom (shape w) a (ends (shape w) (start (shape w)) (k .pre)) post ≡ block (record { pre = []; size = x .size; post = k .post }) = find-at (shape w) (shape-good wd) a (ends (shape w) (start (shape w)) (k .pre)) (x .size) (k .post) (omega (arith, k .begins)) in (
       record { pre = k .pre; size = x .size; post = k .post },
       record {
         found = from ∙ past ∙ ap (λ (f : Found). behinds (k .pre) f) at ∙ ap (λ (l : List Block). block (record { pre = l; size = x .size; post = k .post })) (append-nil (k .pre));

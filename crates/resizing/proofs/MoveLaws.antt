@@ -14,9 +14,10 @@ use Rattle.model.specs.Sound.{Here}
 use Rattle.model.specs.Rules.{Made, find, allocate, capacity}
 use Rattle.model.specs.Calls.{drawn}
 use Rattle.model.specs.Live.{_∈_, live}
-use Rattle.model.proofs.Payloads.{in-area}
-use Rattle.model.proofs.Allocation.{Granted, even, allocate-grants}
-use Rattle.model.proofs.Moving.{payloadOf, found-live, live-apart, copied-here}
+use Rattle.model.proofs.Good.{shape-good}
+use Rattle.model.proofs.lives.Payloads.{in-area}
+use Rattle.model.proofs.rules.Allocation.{Granted, allocate-grants}
+use Rattle.model.proofs.lives.Moving.{payloadOf, found-live, live-apart, copied-here}
 use Rattle.find.specs.declared.Block as seen
 use Rattle.engine.specs.declared.allocate.Taken.{Taken}
 use Rattle.engine.specs.declared.allocate.Taken.the-variants.{At, NoRoom}
@@ -43,7 +44,7 @@ taken-some (some m) x e = (m, refl, ap address e)
 -- the old place and the new, in a layout of the bytes
 module _ {w : ℕ} (b : List ℕ) (a k n : ℕ) (q : Holding w b a k) (s : Asked w n) (L : Layout) (h : Here (shape w) b L) (m : Made) (e : allocate (shape w) n L ≡ some m) where
   grants : Granted (shape w) (endOf (length b)) n L m
-  grants = allocate-grants (shape w) (endOf (length b)) n (even (q .ready .width)) L m (h .valid) (s .some-byte) e
+  grants = allocate-grants (shape w) (endOf (length b)) n (shape-good (q .ready .width)) L m (h .valid) (s .some-byte) e
 
   pub old-live : payloadOf (shape w) a (find (shape w) a L) ∈ live (shape w) (m .layout)
   old-live = grants .adds .kept (payloadOf (shape w) a (find (shape w) a L)) (found-live (shape w) a (start (shape w)) (L .blocks) (q .live L h))

@@ -17,12 +17,14 @@ use Rattle.model.specs.Layout.{variable, Block, used, Layout, useSize, useWords
 use Rattle.model.specs.Sound.{Here}
 use Rattle.model.specs.Rules.{Spot, block, stays}
 use Rattle.model.specs.Calls.{drawn}
-use Rattle.model.proofs.Pictures as pictures
-use Rattle.model.proofs.Middle.{linkOf, backOf, putIf, Middle, middle-at, next-in}
-use Rattle.model.proofs.Drawn.{drawn-here}
-use Rattle.model.proofs.Taken.{takes, parts, restAt, takes-of}
-use Rattle.model.proofs.Replace.{three}
-use Rattle.model.proofs.Resizing.{both-ends, resizedIn, resized-valid, stays-same, stays-cut, stays-grown, stays-none}
+use Rattle.model.proofs.Good.{shape-good}
+use Rattle.model.proofs.pictures.Pictures as pictures
+use Rattle.model.proofs.blocks.Middle.{Middle, middle-at, next-in}
+use Rattle.model.specs.inner.Links.{linkOf, backOf, putIf, takes, restAt}
+use Rattle.model.proofs.pictures.Drawn.{drawn-here}
+use Rattle.model.proofs.blocks.Taken.{parts, takes-of}
+use Rattle.model.proofs.blocks.Replace.{three}
+use Rattle.model.proofs.blocks.Resizing.{both-ends, resizedIn, resized-valid, stays-same, stays-cut, stays-grown, stays-none}
 use Rattle.find.specs.declared.Block as found
 use Rattle.engine.specs.declared.blocks.Gap.{Gap}
 use Rattle.find.specs.Find.{BlockFound}
@@ -107,7 +109,7 @@ module _ {w : ℕ} (wd : Width w) (b : List ℕ) (L : Layout) (a : ℕ) (t : Spo
           → h₂ ≡ putIf (shape w) (draw w (highWords w g u 2) h₁) (g .back .0) (restAt (shape w) u (g .size) (g .at .0) (g .prev .0)) → Stays w b L (stays (shape w) n (block t) L) true h₂
       unfolding resized useWords useSize draw
       written l way bytes short u eu h₁ h₂ e₁ e₂ =
-          let v = resized-valid (shape w) n L t (right .rights) (right .post) (right .r) (right .side) (right .post-is) (right .clear) (big .above) (endOf (length b)) (omega arith) (omega arith) (omega (arith, gap-is .size)) (h .valid) (blocks-are wd b L a t x h f) in
+          let v = resized-valid (shape w) n L t (right .rights) (right .post) (right .r) (right .side) (right .post-is) (right .clear) (big .above) (endOf (length b)) (shape-good wd) (omega (arith, gap-is .size)) (h .valid) (blocks-are wd b L a t x h f) in
           let u-is : u ≡ takes (shape w) (needOf (shape w) n) (t .size + right .r) = eu ∙ ap (λ (y : ℕ). takes (shape w) y (g .size)) en ∙ ap (λ (y : ℕ). takes (shape w) (needOf (shape w) n) y) (gap-is .size) in
           let k = takes-of (shape w) (needOf (shape w) n) (t .size + right .r) (omega (arith, gap-is .size)) in
           let d : h₂ ≡ drawn (shape w) resized b =
@@ -115,14 +117,14 @@ module _ {w : ℕ} (wd : Width w) (b : List ℕ) (L : Layout) (a : ℕ) (t : Spo
           ∙ ap (λ (y : ℕ). drawn (shape w) (three (shape w) (L .lists) (t .pre) (parts (shape w) y (t .size + right .r) (variable y)) (right .post)) b) u-is in
           let o : stays (shape w) n (block t) L ≡ some resized =
           ⊎-elim
-          (λ z. stays-cut (shape w) n L t (right .rights) (right .post) (right .r) (right .side) (right .post-is) (right .clear) (big .above) (omega (arith, z, f .size)) (omega arith))
-          (λ z. stays-grown (shape w) n L t (right .rights) (right .post) (right .r) (right .side) (right .post-is) (right .clear) (big .above) (omega (arith, z, f .size)) (omega (arith, gap-is .size)) (omega arith))
+          (λ z. stays-cut (shape w) n L t (right .rights) (right .post) (right .r) (right .side) (right .post-is) (right .clear) (big .above) (omega (arith, z, f .size)) (shape-good wd))
+          (λ z. stays-grown (shape w) n L t (right .rights) (right .post) (right .r) (right .side) (right .post-is) (right .clear) (big .above) (omega (arith, z, f .size)) (omega (arith, gap-is .size)) (shape-good wd))
           way in
           rw o
           (record {
             answer = refl;
             bytes = d;
-            here = subst (λ (y : List ℕ). Here (shape w) y resized) (sym d) (drawn-here (shape w) b resized (h .magic) v (words-fit wd (length b) short));
+            here = subst (λ (y : List ℕ). Here (shape w) y resized) (sym d) (drawn-here (shape w) (shape-good wd) b resized (h .magic) v short);
           })
 
 -- what code reads and writes, in its own numbers

@@ -10,15 +10,16 @@ use Rattle.words.specs.Copy.{copied}
 use Rattle.words.proofs.WordLaws.{Bytes}
 use Rattle.model.specs.declared.Address.{Address}
 use Rattle.model.specs.declared.Position.{Position}
-use Rattle.model.specs.Shape.{shape, endOf, classOf, offsetOf, start, leastTaken, largest}
+use Rattle.model.specs.Shape.{shape, endOf, classOf, offsetOf, start, leastVariable, largestItem}
 use Rattle.model.specs.Layout.{Layout}
 use Rattle.model.specs.Sound.{Here}
 use Rattle.model.specs.Rules.{Spot, Made, Found, block, thing, nothing, find, allocate, capacity, stays, freed}
 use Rattle.model.specs.Refusals.{notLive, noRoom}
 use Rattle.model.specs.Calls.{Outcome, refused, granted, found, drawn, without, moved, resized, made}
-use Rattle.model.proofs.Finding.{item-found}
-use Rattle.model.proofs.Moving.{taken-large, item-again}
-use Rattle.model.proofs.Resizing.{item-stays, item-moves, small-moves}
+use Rattle.model.proofs.Good.{shape-good}
+use Rattle.model.proofs.walks.Finding.{item-found}
+use Rattle.model.proofs.lives.Moving.{taken-large, item-again}
+use Rattle.model.proofs.blocks.Resizing.{item-stays, item-moves, small-moves}
 use Rattle.find.specs.declared.Block.{Block}
 use Rattle.find.specs.declared.Live.{Live}
 use Rattle.find.specs.declared.Live.the-variants.{Nothing, Item, Variable}
@@ -115,7 +116,7 @@ module _ {w : ℕ} {b : List ℕ} {a q c : ℕ} (i : ItemAt w b a q c) where
   few =
       let L = i .ready .sound .layout in
       let h = i .ready .sound .here in
-      item-found (shape w) (omega arith) a (offsetOf (shape w) q) c (start (shape w)) (L .blocks) (omega arith) (h .valid .allowed) (i .is L h) .class
+      item-found (shape w) (shape-good (i .ready .width)) a (offsetOf (shape w) q) c (start (shape w)) (L .blocks) (omega arith) (h .valid .allowed) (i .is L h) .class
 
   pub item-holds : Holding w b a (8 * c + 8)
   item-holds = record { ready = i .ready; live = is-live; large = λ L h. ap (capacity (shape w)) (sym (i .is L h)) }
@@ -140,9 +141,9 @@ module _ {w : ℕ} {b : List ℕ} {a q c : ℕ} (i : ItemAt w b a q c) where
     again : (L : Layout) (h : Here (shape w) b L) → find (shape w) a (chosen g item-holds s x e L h .0 .layout) ≡ thing (offsetOf (shape w) q) c
     again L h =
         let m = chosen g item-holds s x e L h in
-        let f = item-found (shape w) (omega arith) a (offsetOf (shape w) q) c (start (shape w)) (L .blocks) (omega arith) (h .valid .allowed) (i .is L h) in
+        let f = item-found (shape w) (shape-good (i .ready .width)) a (offsetOf (shape w) q) c (start (shape w)) (L .blocks) (omega arith) (h .valid .allowed) (i .is L h) in
         let hc = carried-in g item-holds s x e L h in
-        item-again (shape w) (omega arith) (endOf (length d)) (m .0 .layout) (hc .valid) a (offsetOf (shape w) q) c few (f .at)
+        item-again (shape w) (shape-good (i .ready .width)) (endOf (length d)) (m .0 .layout) (hc .valid) a (offsetOf (shape w) q) c few (f .at)
         (rw (i .is L h) at (old-live b a (8 * c + 8) n item-holds s L h (m .0) (m .1)))
 
     pub item-still : length d ≡ length b → ItemLive w d q c
@@ -163,11 +164,11 @@ module _ {w : ℕ} {b : List ℕ} {a : ℕ} {x : Block} (i : BlockAt w b a x) wh
   block-is-live : (L : Layout) → Here (shape w) b L → find (shape w) a L ≡ nothing → ⊥
   block-is-live L h e = not-nothing-block (i .is L h .0) (sym (i .is L h .1 .found) ∙ e)
 
-  pub block-large : leastTaken (shape w) ≤ x .size
+  pub block-large : leastVariable (shape w) ≤ x .size
   block-large =
       let L = i .ready .sound .layout in
       let h = i .ready .sound .here in
-      omega (arith, taken-large (shape w) (omega arith) (endOf (length b)) L (h .valid) a (i .is L h .0) (i .is L h .1 .found), i .is L h .1 .size)
+      omega (arith, taken-large (shape w) (shape-good (i .ready .width)) (endOf (length b)) L (h .valid) a (i .is L h .0) (i .is L h .1 .found), i .is L h .1 .size)
 
   pub block-holds : Holding w b a (x .size - 2 * w)
   block-holds =
@@ -183,7 +184,7 @@ module _ {w : ℕ} {b : List ℕ} {a : ℕ} {x : Block} (i : BlockAt w b a x) wh
       let h = i .ready .sound .here in
       record { width = i .ready .width; layout = L; here = h; short = i .ready .short; address = a; spot = i .is L h .0; found = i .is L h .1 }
 
-  pub small-goes : {n : ℕ} → n ≤ largest (shape w) → (r : Resized) (d : List ℕ) → Moves w b a n r d → Resizes w b a n r d
+  pub small-goes : {n : ℕ} → n ≤ largestItem (shape w) → (r : Resized) (d : List ℕ) → Moves w b a n r d → Resizes w b a n r d
   small-goes {n} l r d g =
       record {
         is = λ L h.

@@ -6,7 +6,7 @@ use Rattle.words.specs.Width.{Width}
 use Rattle.model.specs.Shape.{shape}
 use Rattle.model.specs.Layout.{Layout}
 use Rattle.model.specs.Sound.{Here}
-use Rattle.model.proofs.Mending.{Stands, Mend}
+use Rattle.model.specs.inner.Walks.{Stands, Mend}
 use Rattle.find.specs.declared.Block.{Block}
 
 -- x is a block as it was found before an allocation, and `before` is the free block before the one at its prev

@@ -5,12 +5,12 @@ use mathlib.Core.Bool.{Bool, true, false}
 use mathlib.Core.List.{List}
 use mathlib.Core.Option.{Option, none, some}
 use Rattle.words.specs.Word.{wordAt}
-use Rattle.model.specs.Shape.{shape, largest}
+use Rattle.model.specs.Shape.{shape, largestItem}
 use Rattle.model.specs.Layout.{Layout}
 use Rattle.model.specs.Sound.{Here}
 use Rattle.model.specs.Rules.{Spot, block, stays}
 use Rattle.model.specs.Calls.{drawn}
-use Rattle.model.proofs.Middle.{linkOf, backOf}
+use Rattle.model.specs.inner.Links.{linkOf, backOf}
 use Rattle.find.specs.declared.Block.{Block}
 use Rattle.engine.specs.declared.blocks.Gap.{Gap}
 use Rattle.find.specs.Find.{BlockFound}
@@ -27,7 +27,7 @@ pub record Reach (w : ℕ) (b : List ℕ) (x : Block) (g : Gap) : Type 0 where
 
 -- a size that has a block of its own
 pub record Large (w n : ℕ) : Type 0 where
-  pub above : largest (shape w) < n
+  pub above : largestItem (shape w) < n
   pub most : n ≤ shape w .most
 
 -- whether a record stays, and the bytes and the layout then

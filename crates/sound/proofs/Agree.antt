@@ -12,12 +12,12 @@ use Rattle.words.specs.Bits.{bitAt}
 use Rattle.model.specs.Shape.{shape, index, start}
 use Rattle.model.specs.Layout.{Slot, variable, page, Block, free, used, useSize, sizeOf}
 use Rattle.model.specs.Sound.{times, idleSlots, idleIn, idleItems}
-use Rattle.model.proofs.Drawn.{times-append}
+use Rattle.model.proofs.pictures.Drawn.{times-append}
 use Rattle.sound.specs.Runs.{Slots, flagOf, Headers, Reads, freeIn, freeItems}
 use Rattle.sound.specs.Maps.{Clear}
 use Rattle.sound.specs.Lists.{ItemAt, Chain, Chains, flat, Listed, Filled}
 use Rattle.sound.specs.Parts.{Walk}
-use Rattle.model.proofs.Offsets.{items-off}
+use Rattle.model.proofs.items.Offsets.{items-off}
 use Rattle.sound.proofs.ItemHeaders.{slots-header, items-header}
 use Rattle.sound.proofs.Chained.{chain-item, chain-few, chains-at}
 use Rattle.sound.proofs.OneLayout.{blocks-one}

@@ -14,7 +14,7 @@ use Rattle.words.specs.Word.{wordAt}
 use Rattle.words.specs.Bits.{bitAt}
 use Rattle.model.specs.Shape.{shape, index}
 use Rattle.model.specs.Sound.{times}
-use Rattle.model.proofs.Drawn.{times-append}
+use Rattle.model.proofs.pictures.Drawn.{times-append}
 use Rattle.model.proofs.Sizes.{zero-even}
 use Rattle.sound.specs.Maps.{Marked}
 use Rattle.sound.specs.Lists.{ItemAt, named, Chain, Chains, flat, Counted, Listed}

@@ -8,11 +8,11 @@ use borrow.Author.Tests.{eq-eqb}
 use Rattle.words.specs.Width.{Width}
 use Rattle.words.specs.Word.{wordAt}
 use Rattle.model.specs.Picture.{Shows}
-use Rattle.model.specs.Shape.{shape, item, endOf, index, start}
+use Rattle.model.specs.Shape.{shape, itemSize, endOf, index, start}
 use Rattle.model.specs.Layout.{Slot, idle, held, variable, page, Block, free, used, Layout, nextOf, useSize, sizeOf, header, slotWords, useWords, own, blockWords, headWords, fixedLow, fixedHigh, words}
 use Rattle.model.specs.Sound.{times, AllowedUse, Allowed, AllAllowed, idleSlots, idleIn, idleItems, Here, Sound}
-use Rattle.model.proofs.Pictures.{shows-append}
-use Rattle.model.proofs.Drawn.{times-append}
+use Rattle.model.proofs.pictures.Pictures.{shows-append}
+use Rattle.model.proofs.pictures.Drawn.{times-append}
 use Rattle.sound.specs.Runs.{Slots, flagOf, Headers, Reads}
 use Rattle.sound.specs.Lists.{Chains, Filled}
 use Rattle.sound.specs.Parts.{Fixed}
@@ -28,8 +28,8 @@ module _ {w : ℕ} (wd : Width w) (b : List ℕ) (ls : List (List ℕ)) where
   slots-show c p [] h s k = tt
   slots-show c p (idle ∷ ss) h s k =
       let e : index (shape w) + (p - index (shape w)) ≡ p = omega arith in
-      (ap (λ (x : ℕ). wordAt w b x) (sym e) ∙ k (p - index (shape w)) (rw (eq-eqb (p - index (shape w)) (p - index (shape w)) refl) (omega arith)), slots-show c (p + item (shape w) c) ss (omega arith) (s .1) (λ o l. k o (omega arith)))
-  slots-show c p (held ∷ ss) h s k = (s .0, slots-show c (p + item (shape w) c) ss (omega arith) (s .1) k)
+      (ap (λ (x : ℕ). wordAt w b x) (sym e) ∙ k (p - index (shape w)) (rw (eq-eqb (p - index (shape w)) (p - index (shape w)) refl) (omega arith)), slots-show c (p + itemSize (shape w) c) ss (omega arith) (s .1) (λ o l. k o (omega arith)))
+  slots-show c p (held ∷ ss) h s k = (s .0, slots-show c (p + itemSize (shape w) c) ss (omega arith) (s .1) k)
 
   blocks-show : (p prev : ℕ) (bs : List Block) → index (shape w) ≤ p → AllAllowed (shape w) bs → Reads w b p prev bs → ((c : ℕ) → c < 4 * w → Named c (idleItems (shape w) c p bs)) → Shows w b (blockWords (shape w) ls p prev 0 bs)
   unfolding Reads flagOf Headers blockWords own useWords useSize sizeOf idleItems idleIn AllAllowed Allowed AllowedUse Shows

@@ -9,16 +9,16 @@ use borrow.Author.Tests.{eq-eqb, ne-eqb}
 use Rattle.words.specs.Width.{Width}
 use Rattle.words.specs.Word.{wordAt}
 use Rattle.model.specs.Picture.{Shows}
-use Rattle.model.specs.Shape.{shape, item, endOf, index, start}
+use Rattle.model.specs.Shape.{shape, itemSize, endOf, index, start}
 use Rattle.model.specs.Layout.{Slot, idle, held, variable, page, Block, free, used, Layout, headOf, nextOf, useSize, sizeOf, firstFree, header, slotWords, useWords, own, blockWords, headWords, fixedLow, fixedHigh, words}
 use Rattle.model.specs.Sound.{times, AllowedUse, Allowed, AllAllowed, idleItems, Here, Sound}
-use Rattle.model.proofs.Pictures.{shows-left, shows-right}
+use Rattle.model.proofs.pictures.Pictures.{shows-left, shows-right}
 use Rattle.sound.specs.Runs.{Slots, flagOf, Headers, Reads}
 use Rattle.sound.specs.Lists.{ItemAt, named, Chain, Chains, Filled}
 use Rattle.sound.specs.Parts.{Fixed}
-use Rattle.model.proofs.Offsets.{items-off, items-once}
-use Rattle.model.proofs.Shown.{blocks-shown, head-read, item-read}
-use Rattle.model.proofs.Aligned.{next-aligned}
+use Rattle.model.proofs.items.Offsets.{items-off, items-once}
+use Rattle.model.proofs.pictures.Shown.{blocks-shown, head-read, item-read}
+use Rattle.model.proofs.items.Aligned.{next-aligned}
 use Rattle.sound.proofs.Chained.{chains-of}
 use Rattle.model.proofs.Sizes.{start-eight}
 use Rattle.sound.proofs.Places.{idle-low, header-names}
@@ -27,8 +27,8 @@ module _ {w : ℕ} (wd : Width w) (b : List ℕ) (ls : List (List ℕ)) (aligned
   slots-of : (c p : ℕ) (ss : List Slot) → c < 4 * w → Shows w b (slotWords (shape w) c (getD ls c []) p ss) → Slots w b c p ss
   unfolding slotWords Shows header Slots
   slots-of c p [] h s = tt
-  slots-of c p (idle ∷ ss) h s = (rw (s .0) (idle-low wd (nextOf (p - index (shape w)) (getD ls c [])) c (aligned c (p - index (shape w)) h) h), slots-of c (p + item (shape w) c) ss h (s .1))
-  slots-of c p (held ∷ ss) h s = (s .0, slots-of c (p + item (shape w) c) ss h (s .1))
+  slots-of c p (idle ∷ ss) h s = (rw (s .0) (idle-low wd (nextOf (p - index (shape w)) (getD ls c [])) c (aligned c (p - index (shape w)) h) h), slots-of c (p + itemSize (shape w) c) ss h (s .1))
+  slots-of c p (held ∷ ss) h s = (s .0, slots-of c (p + itemSize (shape w) c) ss h (s .1))
 
   reads-of : (p prev : ℕ) (bs : List Block) → AllAllowed (shape w) bs → Shows w b (blockWords (shape w) ls p prev 0 bs) → Reads w b p prev bs
   unfolding blockWords own sizeOf useSize Reads flagOf Headers AllAllowed Allowed AllowedUse useWords Shows

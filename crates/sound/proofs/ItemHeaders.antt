@@ -7,20 +7,20 @@ use native.Mathlib.Decide.{ℕ-discrete, decLe}
 use borrow.Author.Tests.{eq-eqb, ne-eqb}
 use Rattle.words.specs.Width.{Width}
 use Rattle.words.specs.Word.{wordAt}
-use Rattle.model.specs.Shape.{shape, item, index}
+use Rattle.model.specs.Shape.{shape, itemSize, index}
 use Rattle.model.specs.Layout.{Slot, idle, held, variable, page, Block, free, used, useSize, sizeOf}
 use Rattle.model.specs.Sound.{times, idleSlots, idleIn, idleItems}
-use Rattle.model.proofs.Drawn.{times-append}
+use Rattle.model.proofs.pictures.Drawn.{times-append}
 use Rattle.sound.specs.Runs.{Slots, Headers, Reads}
 
 module _ {w : ℕ} (wd : Width w) where
   pub slots-header : (b : List ℕ) (c o p : ℕ) (ss : List Slot) → index (shape w) ≤ p → Slots w b c p ss → 1 ≤ times o (idleSlots (shape w) c p ss) → wordAt w b (index (shape w) + o) % (16 * w) ≡ 4 * c + 1
   unfolding Slots idleSlots times
   slots-header b c o p [] h s k = absurd (omega arith)
-  slots-header b c o p (held ∷ ss) h s k = slots-header b c o (p + item (shape w) c) ss (omega arith) (s .1) k
-  slots-header b c o p (idle ∷ ss) h s k = go (ℕ-discrete o (p - index (shape w))) (slots-header b c o (p + item (shape w) c) ss (omega arith) (s .1))
+  slots-header b c o p (held ∷ ss) h s k = slots-header b c o (p + itemSize (shape w) c) ss (omega arith) (s .1) k
+  slots-header b c o p (idle ∷ ss) h s k = go (ℕ-discrete o (p - index (shape w))) (slots-header b c o (p + itemSize (shape w) c) ss (omega arith) (s .1))
     where
-      go : Dec (o ≡ p - index (shape w)) → (1 ≤ times o (idleSlots (shape w) c (p + item (shape w) c) ss) → wordAt w b (index (shape w) + o) % (16 * w) ≡ 4 * c + 1) → wordAt w b (index (shape w) + o) % (16 * w) ≡ 4 * c + 1
+      go : Dec (o ≡ p - index (shape w)) → (1 ≤ times o (idleSlots (shape w) c (p + itemSize (shape w) c) ss) → wordAt w b (index (shape w) + o) % (16 * w) ≡ 4 * c + 1) → wordAt w b (index (shape w) + o) % (16 * w) ≡ 4 * c + 1
       go (yes e) r = let z : index (shape w) + (p - index (shape w)) ≡ p = omega arith in rw (e, z) (s .0)
       go (no e) r = r (omega (arith, rw (ne-eqb o (p - index (shape w)) e) at k))
 

@@ -13,7 +13,7 @@ use Rattle.words.specs.Bits.{bitAt, marked}
 use Rattle.words.proofs.BitLaws.{marked-same, marked-other}
 use Rattle.model.specs.Shape.{shape, index}
 use Rattle.model.specs.Sound.{times}
-use Rattle.model.proofs.Drawn.{times-append}
+use Rattle.model.proofs.pictures.Drawn.{times-append}
 use Rattle.sound.specs.Maps.{Adds, Marked, Clear}
 use Rattle.sound.specs.Parts.{Marking}
 use Rattle.sound.proofs.Places.{whole, times-same, bit-room}

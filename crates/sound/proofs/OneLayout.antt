@@ -5,11 +5,11 @@ use mathlib.Core.List.{List, [], _∷_}
 use native.Mathlib.Omega.{arith}
 use lib.ListN.{length}
 use Rattle.words.specs.Width.{Width}
-use Rattle.model.specs.Shape.{shape, item, endOf, start}
+use Rattle.model.specs.Shape.{shape, itemSize, endOf, start}
 use Rattle.model.specs.Layout.{Slot, idle, held, Use, variable, page, Block, free, used, useSize, sizeOf, ends}
 use Rattle.model.specs.Sound.{AllowedUse, Allowed, AllAllowed}
 use Rattle.model.specs.Promises.{OneLayout}
-use Rattle.model.proofs.Blocks.{le-ends}
+use Rattle.model.proofs.blocks.Blocks.{le-ends}
 use Rattle.sound.specs.Runs.{Slots, flagOf, Headers, Reads}
 use Rattle.sound.proofs.Pages.{page-class}
 use Rattle.sound.proofs.Walks.{use-size, use-flag}
@@ -24,8 +24,8 @@ module _ {w : ℕ} (wd : Width w) where
   slots-one b c p [] [] e h k = refl
   slots-one b c p [] (t ∷ ts) e h k = absurd (omega arith)
   slots-one b c p (s ∷ ss) [] e h k = absurd (omega arith)
-  slots-one b c p (idle ∷ ss) (idle ∷ ts) e h k = ap (λ (x : List Slot). idle ∷ x) (slots-one b c (p + item (shape w) c) ss ts (omega arith) (h .1) (k .1))
-  slots-one b c p (held ∷ ss) (held ∷ ts) e h k = ap (λ (x : List Slot). held ∷ x) (slots-one b c (p + item (shape w) c) ss ts (omega arith) (h .1) (k .1))
+  slots-one b c p (idle ∷ ss) (idle ∷ ts) e h k = ap (λ (x : List Slot). idle ∷ x) (slots-one b c (p + itemSize (shape w) c) ss ts (omega arith) (h .1) (k .1))
+  slots-one b c p (held ∷ ss) (held ∷ ts) e h k = ap (λ (x : List Slot). held ∷ x) (slots-one b c (p + itemSize (shape w) c) ss ts (omega arith) (h .1) (k .1))
   slots-one b c p (idle ∷ ss) (held ∷ ts) e h k = absurd (not-both wd (wordAt w b p) c (h .0) (k .0))
   slots-one b c p (held ∷ ss) (idle ∷ ts) e h k = absurd (not-both wd (wordAt w b p) c (k .0) (h .0))
 
@@ -33,7 +33,7 @@ module _ {w : ℕ} (wd : Width w) where
   unfolding AllowedUse useSize
   pages-one b p c k j ss ts a b′ e h g =
       let n : length ss ≡ length ts = a .1 ∙ sym (b′ .1) in
-      ap₂ (λ (x : ℕ) (y : List Slot). page c x y) (omega (arith, e, ap (λ (x : ℕ). x * item (shape w) c) n)) (slots-one b c (p + w) ss ts n h g)
+      ap₂ (λ (x : ℕ) (y : List Slot). page c x y) (omega (arith, e, ap (λ (x : ℕ). x * itemSize (shape w) c) n)) (slots-one b c (p + w) ss ts n h g)
 
   use-one : (b : List ℕ) (p : ℕ) (u v : Use) → AllowedUse (shape w) u → AllowedUse (shape w) v → useSize (shape w) u + flagOf u ≡ useSize (shape w) v + flagOf v → Headers w b p u → Headers w b p v → u ≡ v
   unfolding flagOf Headers

@@ -7,7 +7,7 @@ use lib.ListN.{length}
 use Rattle.words.specs.Width.{Width}
 use Rattle.words.specs.Word.{wordAt}
 use Rattle.words.specs.Bits.{marked}
-use Rattle.model.specs.Shape.{shape, item, index, start, leastTaken}
+use Rattle.model.specs.Shape.{shape, itemSize, index, start, leastVariable}
 use Rattle.model.specs.Layout.{Slot, idle, held, Use, variable, page, useSize}
 use Rattle.model.specs.Sound.{AllowedUse, idleSlots}
 use Rattle.model.proofs.Sizes.{per-page-bound, page-items-bound, item-even, class-few, class-held, page-eight, first-even}
@@ -22,11 +22,11 @@ pub data Header (w : ℕ) (b : List ℕ) (c q : ℕ) : Type 0 where
   of-idle : wordAt w b q % (16 * w) ≡ 4 * c + 1 → Header w b c q
   of-held : wordAt w b q ≡ 4 * c + 3 → Header w b c q
 
-pub items-in : {w : ℕ} (b : List ℕ) (c q n : ℕ) → (n ≡ 0 → ⊥) → Items w b c q n → Header w b c q × Items w b c (q + item (shape w) c) (n - 1)
+pub items-in : {w : ℕ} (b : List ℕ) (c q n : ℕ) → (n ≡ 0 → ⊥) → Items w b c q n → Header w b c q × Items w b c (q + itemSize (shape w) c) (n - 1)
 unfolding Slots
 items-in {w} b c q n z r = go (r .slots) (r .count) (r .headers)
   where
-    go : (ss : List Slot) → length ss ≡ n → Slots w b c q ss → Header w b c q × Items w b c (q + item (shape w) c) (n - 1)
+    go : (ss : List Slot) → length ss ≡ n → Slots w b c q ss → Header w b c q × Items w b c (q + itemSize (shape w) c) (n - 1)
     go [] e h = absurd (z (sym e))
     go (idle ∷ ss) e h = (of-idle (h .0), record { slots = ss; count = omega arith; headers = h .1 })
     go (held ∷ ss) e h = (of-held (h .0), record { slots = ss; count = omega arith; headers = h .1 })
@@ -36,7 +36,7 @@ unfolding Slots idleSlots
 items-none wd b c q m = record { items = record { slots = []; count = refl; headers = tt }; adds = adds-none wd m }
 
 items-idle : {w : ℕ} → Width w → {b : List ℕ} {c q n : ℕ} {m m₁ m′ : List ℕ} → (n ≡ 0 → ⊥) → wordAt w b q % (16 * w) ≡ 4 * c + 1 → start (shape w) + w ≤ q → q % w ≡ 0 → q < w * (64 * length m) → Clear w m q
-    → m₁ ≡ marked m (q / w) → ItemsMarked w b c (q + item (shape w) c) (n - 1) m₁ m′ → ItemsMarked w b c q n m m′
+    → m₁ ≡ marked m (q / w) → ItemsMarked w b c (q + itemSize (shape w) c) (n - 1) m₁ m′ → ItemsMarked w b c q n m m′
 unfolding Slots idleSlots
 items-idle {w} wd {b} {c} {q} {n} {m} z e low a u k em r =
     record {
@@ -44,7 +44,7 @@ items-idle {w} wd {b} {c} {q} {n} {m} z e low a u k em r =
       adds = adds-mark wd (q / w) (q - index (shape w)) (bit-room wd q (length m) u) (k .from (q / w) (omega (arith, whole wd q a))) em (omega (arith, whole wd q a)) (λ y. omega arith) (r .adds);
     }
 
-items-held : {w : ℕ} {b : List ℕ} {c q n : ℕ} {m m′ : List ℕ} → (n ≡ 0 → ⊥) → wordAt w b q ≡ 4 * c + 3 → ItemsMarked w b c (q + item (shape w) c) (n - 1) m m′ → ItemsMarked w b c q n m m′
+items-held : {w : ℕ} {b : List ℕ} {c q n : ℕ} {m m′ : List ℕ} → (n ≡ 0 → ⊥) → wordAt w b q ≡ 4 * c + 3 → ItemsMarked w b c (q + itemSize (shape w) c) (n - 1) m m′ → ItemsMarked w b c q n m m′
 unfolding Slots idleSlots
 items-held z e r = record { items = record { slots = held ∷ r .items .slots; count = omega (arith, r .items .count); headers = (e, r .items .headers) }; adds = r .adds }
 
@@ -52,7 +52,7 @@ items-held z e r = record { items = record { slots = held ∷ r .items .slots; c
 pub record ItemsInv (w : ℕ) (b m₀ : List ℕ) (first stop c : ℕ) (m : List ℕ) (n q : ℕ) : Type 0 where
   pub width : Width w
   pub left : ℕ
-  pub stops : stop ≡ q + left * item (shape w) c
+  pub stops : stop ≡ q + left * itemSize (shape w) c
   pub ahead : Items w b c first (shape w .perPage c) → Items w b c q left
   pub back : (m′ : List ℕ) → ItemsMarked w b c q left m m′ → ItemsMarked w b c first (shape w .perPage c) m₀ m′
   pub marking : Marking w m n q
@@ -70,10 +70,10 @@ pred-mul (suc m) k z = let e : suc m - 1 ≡ m = omega arith in rw e (omega arit
 
 module _ {w : ℕ} {b m₀ : List ℕ} {first stop c : ℕ} {m : List ℕ} {n q : ℕ} (i : ItemsInv w b m₀ first stop c m n q) where
   pub items-some : q < stop → i .left ≡ 0 → ⊥
-  items-some h e = omega (arith, ap (λ (x : ℕ). q + x * item (shape w) c) e, i .stops)
+  items-some h e = omega (arith, ap (λ (x : ℕ). q + x * itemSize (shape w) c) e, i .stops)
 
-  pub items-fit : q < stop → q + item (shape w) c ≤ stop
-  items-fit h = omega (arith, i .stops, pred-mul (i .left) (item (shape w) c) (items-some h))
+  pub items-fit : q < stop → q + itemSize (shape w) c ≤ stop
+  items-fit h = omega (arith, i .stops, pred-mul (i .left) (itemSize (shape w) c) (items-some h))
 
   -- a header that is neither
   pub items-wrong : q < stop → (x : ℕ) → x ≡ wordAt w b q → (x % (16 * w) ≡ 4 * c + 1 → ⊥) → (x ≡ 4 * c + 3 → ⊥) → (m′ : List ℕ) → ItemsTold w b m₀ first stop c 0 m′
@@ -84,27 +84,27 @@ module _ {w : ℕ} {b m₀ : List ℕ} {first stop c : ℕ} {m : List ℕ} {n q 
       go (of-idle y) = f (rw e y)
       go (of-held y) = g (e ∙ y)
 
-  pub items-turn-idle : q < stop → (x : ℕ) → x ≡ wordAt w b q → x % (16 * w) ≡ 4 * c + 1 → (m₁ : List ℕ) → m₁ ≡ marked m (q / w) → (s : ℕ) → s ≡ item (shape w) c → ItemsInv w b m₀ first stop c m₁ (n + 1) (q + s)
+  pub items-turn-idle : q < stop → (x : ℕ) → x ≡ wordAt w b q → x % (16 * w) ≡ 4 * c + 1 → (m₁ : List ℕ) → m₁ ≡ marked m (q / w) → (s : ℕ) → s ≡ itemSize (shape w) c → ItemsInv w b m₀ first stop c m₁ (n + 1) (q + s)
   items-turn-idle h x e f m₁ em s es =
       rw es (record {
         width = i .width;
         left = i .left - 1;
-        stops = omega (arith, i .stops, pred-mul (i .left) (item (shape w) c) (items-some h));
+        stops = omega (arith, i .stops, pred-mul (i .left) (itemSize (shape w) c) (items-some h));
         ahead = λ k. items-in b c q (i .left) (items-some h) (i .ahead k) .1;
         back = λ m′ r. i .back m′ (items-idle (i .width) (items-some h) (rw e at f) (i .low) (i .even) (omega (arith, i .map)) (i .marking .clear) em r);
-        marking = marking-more (i .width) (item (shape w) c) (i .even) (omega (arith, i .map)) (omega arith) em (i .marking);
+        marking = marking-more (i .width) (itemSize (shape w) c) (i .even) (omega (arith, i .map)) (omega arith) em (i .marking);
         low = omega (arith, i .low);
         even = item-even (i .width) q c (i .even);
         map = rw (length-marked m m₁ (q / w) em) (i .map);
         size = length-marked m m₁ (q / w) em ∙ i .size;
       })
 
-  pub items-turn-held : q < stop → (x : ℕ) → x ≡ wordAt w b q → x ≡ 4 * c + 3 → (s : ℕ) → s ≡ item (shape w) c → ItemsInv w b m₀ first stop c m n (q + s)
+  pub items-turn-held : q < stop → (x : ℕ) → x ≡ wordAt w b q → x ≡ 4 * c + 3 → (s : ℕ) → s ≡ itemSize (shape w) c → ItemsInv w b m₀ first stop c m n (q + s)
   items-turn-held h x e f s es =
       rw es (record {
         width = i .width;
         left = i .left - 1;
-        stops = omega (arith, i .stops, pred-mul (i .left) (item (shape w) c) (items-some h));
+        stops = omega (arith, i .stops, pred-mul (i .left) (itemSize (shape w) c) (items-some h));
         ahead = λ k. items-in b c q (i .left) (items-some h) (i .ahead k) .1;
         back = λ m′ r. i .back m′ (items-held (items-some h) (sym e ∙ f) r);
         marking = marking-on (omega arith) (i .marking);
@@ -118,9 +118,9 @@ module _ {w : ℕ} {b m₀ : List ℕ} {first stop c : ℕ} {m : List ℕ} {n q 
   items-done h = go (i .left) refl
     where
       go : (k : ℕ) → i .left ≡ k → ItemsTold w b m₀ first stop c n m
-      go (suc k) e = absurd (omega (arith, i .width .least, i .stops, ap (λ (x : ℕ). q + x * item (shape w) c) e))
+      go (suc k) e = absurd (omega (arith, i .width .least, i .stops, ap (λ (x : ℕ). q + x * itemSize (shape w) c) e))
       go zero e =
-          let at-end : stop ≡ q = omega (arith, i .stops, ap (λ (x : ℕ). q + x * item (shape w) c) e) in
+          let at-end : stop ≡ q = omega (arith, i .stops, ap (λ (x : ℕ). q + x * itemSize (shape w) c) e) in
           record {
             is-no = λ z. absurd (marked-pos (i .marking .marked) z);
             is-yes = λ _. i .back m (rw e (items-none (i .width) b c q m));
@@ -141,14 +141,14 @@ page-class {w} wd b c k p ss a h = header-class wd b c (p + w) (a .0) (items-in 
 
 -- what holds of a page
 pub record PageIs (w : ℕ) (b : List ℕ) (p s c : ℕ) : Type 0 where
-  pub least-size : 2 * w + shape w .perPage c * item (shape w) c ≤ s
-  pub most-size : s < 6 * w + shape w .perPage c * item (shape w) c
+  pub least-size : 2 * w + shape w .perPage c * itemSize (shape w) c ≤ s
+  pub most-size : s < 6 * w + shape w .perPage c * itemSize (shape w) c
   pub items : Items w b c (p + w) (shape w .perPage c)
 
 page-is : {w : ℕ} (b : List ℕ) (p s c k : ℕ) (ss : List Slot) → AllowedUse (shape w) (page c k ss) → useSize (shape w) (page c k ss) ≡ s → Slots w b c (p + w) ss → PageIs w b p s c
 unfolding AllowedUse useSize
 page-is {w} b p s c k ss a e h =
-    let z : 2 * w + shape w .perPage c * item (shape w) c + k ≡ s = rw (a .1) at e in
+    let z : 2 * w + shape w .perPage c * itemSize (shape w) c + k ≡ s = rw (a .1) at e in
     record { least-size = omega (arith, z); most-size = omega (arith, z, a .2); items = record { slots = ss; count = a .1; headers = h } }
 
 pub page-in : {w : ℕ} → Width w → (b : List ℕ) (p s : ℕ) → UseAt w b p s 3 → PageIs w b p s (classAt w b p)
@@ -159,12 +159,12 @@ page-in {w} wd b p s r = go (r .use-is) (r .allowed) (r .size) (r .flag) (r .hea
     go (variable t) a e f h = absurd (omega arith)
     go (page c k ss) a e f h = subst (λ (x : ℕ). PageIs w b p s x) (page-class wd b c k p ss a h) (page-is b p s c k ss a e h)
 
-pub page-out : {w : ℕ} → Width w → (b : List ℕ) (p s c : ℕ) (m m′ : List ℕ) → c < 4 * w → s % 8 ≡ 0 → 2 * w + shape w .perPage c * item (shape w) c ≤ s → s < 6 * w + shape w .perPage c * item (shape w) c → ItemsMarked w b c (p + w) (shape w .perPage c) m m′ → UseMarked w b p s 3 m m′
+pub page-out : {w : ℕ} → Width w → (b : List ℕ) (p s c : ℕ) (m m′ : List ℕ) → c < 4 * w → s % 8 ≡ 0 → 2 * w + shape w .perPage c * itemSize (shape w) c ≤ s → s < 6 * w + shape w .perPage c * itemSize (shape w) c → ItemsMarked w b c (p + w) (shape w .perPage c) m m′ → UseMarked w b p s 3 m m′
 unfolding AllowedUse useSize flagOf Headers freeIn
 page-out {w} wd b p s c m m′ lc a l h i =
     record {
       use-at = record {
-        use-is = page c (s - (2 * w + shape w .perPage c * item (shape w) c)) (i .items .slots);
+        use-is = page c (s - (2 * w + shape w .perPage c * itemSize (shape w) c)) (i .items .slots);
         allowed = (lc, i .items .count, omega arith, omega (arith, page-eight wd c));
         size = rw (i .items .count) (omega arith);
         flag = refl;
@@ -174,15 +174,15 @@ page-out {w} wd b p s c m m′ lc a l h i =
     }
 
 -- a variable block
-pub variable-in : {w : ℕ} (b : List ℕ) (p s : ℕ) → UseAt w b p s 2 → leastTaken (shape w) ≤ s
+pub variable-in : {w : ℕ} (b : List ℕ) (p s : ℕ) → UseAt w b p s 2 → leastVariable (shape w) ≤ s
 unfolding flagOf AllowedUse useSize
 variable-in {w} b p s r = go (r .use-is) (r .allowed) (r .size) (r .flag)
   where
-    go : (u : Use) → AllowedUse (shape w) u → useSize (shape w) u ≡ s → flagOf u ≡ 2 → leastTaken (shape w) ≤ s
+    go : (u : Use) → AllowedUse (shape w) u → useSize (shape w) u ≡ s → flagOf u ≡ 2 → leastVariable (shape w) ≤ s
     go (variable t) a e f = omega (arith, a .0)
     go (page c k ss) a e f = absurd (omega arith)
 
-pub variable-out : {w : ℕ} → Width w → (b : List ℕ) (p s : ℕ) (m : List ℕ) → s % 8 ≡ 0 → leastTaken (shape w) ≤ s → UseMarked w b p s 2 m m
+pub variable-out : {w : ℕ} → Width w → (b : List ℕ) (p s : ℕ) (m : List ℕ) → s % 8 ≡ 0 → leastVariable (shape w) ≤ s → UseMarked w b p s 2 m m
 unfolding flagOf Headers freeIn AllowedUse useSize
 variable-out wd b p s m a h = record { use-at = record { use-is = variable s; allowed = (h, a); size = refl; flag = refl; headers = tt }; adds = adds-none wd m }
 
@@ -196,7 +196,7 @@ other-in {w} b p s f n m r = go (r .use-is) (r .flag)
     go (page c k ss) e = m (sym e)
 
 -- a page, where x is the first header, k and i are the number and the size of the items of its class
-module _ {w : ℕ} {b m : List ℕ} {p s n : ℕ} (room : UseRoom w b m p s n) (x k i : ℕ) (ex : x ≡ wordAt w b (p + w)) (ek : k ≡ shape w .perPage (x % (16 * w) / 4)) (ei : i ≡ item (shape w) (x % (16 * w) / 4)) where
+module _ {w : ℕ} {b m : List ℕ} {p s n : ℕ} (room : UseRoom w b m p s n) (x k i : ℕ) (ex : x ≡ wordAt w b (p + w)) (ek : k ≡ shape w .perPage (x % (16 * w) / 4)) (ei : i ≡ itemSize (shape w) (x % (16 * w) / 4)) where
   is-page : UseAt w b p s 3 → PageIs w b p s (x % (16 * w) / 4)
   is-page u = rw ex (page-in (room .width) b p s u)
 
@@ -236,10 +236,10 @@ module _ {w : ℕ} {b m : List ℕ} {p s n : ℕ} (room : UseRoom w b m p s n) (
 
 -- a block in use with flag f
 module _ {w : ℕ} {b m : List ℕ} {p s f n : ℕ} (room : UseRoom w b m p s n) where
-  pub used-small : f ≡ 2 → s < leastTaken (shape w) → (m′ : List ℕ) → UseTold w b m p s f 0 m′
+  pub used-small : f ≡ 2 → s < leastVariable (shape w) → (m′ : List ℕ) → UseTold w b m p s f 0 m′
   used-small e h m′ = rw e (record { is-no = λ _ u. omega (arith, variable-in b p s u); is-yes = λ z. absurd (z refl); marking = λ z. absurd (z refl) })
 
-  pub used-variable : f ≡ 2 → leastTaken (shape w) ≤ s → UseTold w b m p s f n m
+  pub used-variable : f ≡ 2 → leastVariable (shape w) ≤ s → UseTold w b m p s f n m
   used-variable e h = rw e (record { is-no = λ z. absurd (marked-pos (room .marking .marked) z); is-yes = λ _. variable-out (room .width) b p s m (room .size-eight) h; marking = λ _. marking-on (omega arith) (room .marking) })
 
   pub used-other : (f ≡ 2 → ⊥) → (f ≡ 3 → ⊥) → (m′ : List ℕ) → UseTold w b m p s f 0 m′

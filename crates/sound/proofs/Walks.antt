@@ -9,9 +9,9 @@ use Rattle.words.specs.Word.{wordAt}
 use Rattle.model.specs.Shape.{shape, start}
 use Rattle.model.specs.Layout.{Use, variable, page, Block, free, used, useSize, sizeOf, ends, firstFree}
 use Rattle.model.specs.Sound.{Allowed, AllowedUse, AllAllowed, Apart}
-use Rattle.model.proofs.Blocks.{le-ends}
+use Rattle.model.proofs.blocks.Blocks.{le-ends}
 use Rattle.model.proofs.Sizes.{start-eight}
-use Rattle.model.proofs.Standing.{sizes}
+use Rattle.model.proofs.walks.Standing.{sizes}
 use Rattle.sound.specs.Runs.{flagOf, UseAt, Reads, Run, freeIn, freeItems}
 use Rattle.sound.specs.Maps.{Clear}
 use Rattle.sound.specs.Parts.{Sizes, Marking, UseMarked, UseTold, Walk, BlocksTold}

@@ -5,7 +5,7 @@ use mathlib.Core.List.{List}
 use lib.ListN.{length}
 use Rattle.words.specs.Width.{Width}
 use Rattle.words.specs.Word.{wordAt}
-use Rattle.model.specs.Shape.{shape, item, index, start}
+use Rattle.model.specs.Shape.{shape, itemSize, index, start}
 use Rattle.model.specs.Sound.{idleSlots}
 use Rattle.sound.specs.Runs.{Items, UseAt, Run, freeIn, freeItems}
 use Rattle.sound.specs.Maps.{Adds, Marked, Clear}
@@ -39,7 +39,7 @@ pub record Marking (w : ℕ) (m : List ℕ) (n p : ℕ) : Type 0 where
 pub record ItemsRoom (w : ℕ) (b m : List ℕ) (q stop c n : ℕ) : Type 0 where
   pub width : Width w
   pub class : c < 4 * w
-  pub stops : stop ≡ q + shape w .perPage c * item (shape w) c
+  pub stops : stop ≡ q + shape w .perPage c * itemSize (shape w) c
   pub low : start (shape w) + w ≤ q
   pub even : q % w ≡ 0
   pub inside : stop + w ≤ length b

@@ -4,15 +4,15 @@ use mathlib.Core.Path.{_≡_}
 use mathlib.Core.List.{List, [], _∷_, _++_}
 use lib.ListN.{length}
 use Rattle.words.specs.Word.{wordAt}
-use Rattle.model.specs.Shape.{shape, item}
+use Rattle.model.specs.Shape.{shape, itemSize}
 use Rattle.model.specs.Layout.{Slot, idle, held, Use, variable, page, Block, free, used, useSize, ends, firstFree}
 use Rattle.model.specs.Sound.{AllowedUse, AllAllowed, Apart, idleSlots}
 
 -- the headers of a page's items from p on, whatever a free one names as the next
 unfoldable pub Slots : ℕ → List ℕ → ℕ → ℕ → List Slot → Type 0
 Slots w b c p [] = Unit {0}
-Slots w b c p (idle ∷ ss) = (wordAt w b p % (16 * w) ≡ 4 * c + 1) × Slots w b c (p + item (shape w) c) ss
-Slots w b c p (held ∷ ss) = (wordAt w b p ≡ 4 * c + 3) × Slots w b c (p + item (shape w) c) ss
+Slots w b c p (idle ∷ ss) = (wordAt w b p % (16 * w) ≡ 4 * c + 1) × Slots w b c (p + itemSize (shape w) c) ss
+Slots w b c p (held ∷ ss) = (wordAt w b p ≡ 4 * c + 3) × Slots w b c (p + itemSize (shape w) c) ss
 
 -- n items of class c have their headers from q on
 pub record Items (w : ℕ) (b : List ℕ) (c q n : ℕ) : Type 0 where

@@ -7,19 +7,15 @@ use Rattle.host.proofs.heap_allocate.Lts as lts
 use Rattle.heap.proofs.allocate.Reads as allocate-reads
 use Rattle.host.proofs.number.Reads as number-reads
 
--- src/lib.rt:40:12
 allocate-requires : tie.Need-allocate-requires
 allocate-requires c κs = search needs
 
--- src/lib.rt:40:5
 number-requires : tie.Need-number-requires
 number-requires c κs = search needs
 
--- src/lib.rt:36:1
 same-length : tie.Need-same-length
 same-length c = search needs
 
--- src/lib.rt:36:1
 returns : tie.Need-returns
 returns c = told _ (c .before .before .before .allocate .result) _ _ (c .before .before .before .allocate .ensures) (c .number .ensures)
 

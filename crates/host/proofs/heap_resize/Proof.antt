@@ -7,19 +7,15 @@ use Rattle.host.proofs.heap_resize.Lts as lts
 use Rattle.heap.proofs.resize.Reads as resize-reads
 use Rattle.host.proofs.number.Reads as number-reads
 
--- src/lib.rt:54:12
 resize-requires : tie.Need-resize-requires
 resize-requires c κs = search needs
 
--- src/lib.rt:54:5
 number-requires : tie.Need-number-requires
 number-requires c κs = search needs
 
--- src/lib.rt:50:1
 same-length : tie.Need-same-length
 same-length c = search needs
 
--- src/lib.rt:50:1
 returns : tie.Need-returns
 returns c = told _ (c .before .before .before .resize .result) _ _ (c .before .before .before .resize .ensures) (c .number .ensures)
 

@@ -1,8 +1,8 @@
 use Rattle.model.proofs.Sizes.{most-bound}
 use native.Mathlib.Omega.{arith}
 use Rattle.model.specs.Shape.{shape}
-use Rattle.model.proofs.Spots.{spot-middle}
-use Rattle.model.proofs.Taken.{block-in}
+use Rattle.model.proofs.blocks.Spots.{spot-middle}
+use Rattle.model.proofs.blocks.Taken.{block-in}
 use Rattle.engine.proofs.Allocating.{spotted, block-none, block-taken}
 use borrow.Author.Needs.{needs}
 use Rattle.engine.proofs.allocate.a_block.Statement.{statement}

@@ -5,7 +5,7 @@ use lib.ListN.{length}
 use Rattle.model.specs.Shape.{shape, start}
 use Rattle.model.specs.Layout.{Layout}
 use Rattle.model.specs.Sound.{Here}
-use Rattle.model.proofs.FreeWalk.{At, Walk, left, begin, first-read, falls, standing, ended, here-room, size-read, next-read, room, large, hit, miss, lower}
+use Rattle.model.proofs.blocks.FreeWalk.{At, Walk, left, begin, first-read, falls, standing, ended, here-room, size-read, next-read, room, large, hit, miss, lower}
 use borrow.Author.Needs.{needs}
 use Rattle.engine.proofs.blocks.find_fit.Statement.{statement}
 use Rattle.engine.proofs.blocks.find_fit.Tie as tie

@@ -2,8 +2,8 @@ use Rattle.model.proofs.Sizes.{most-bound}
 use mathlib.Core.Path.{refl}
 use native.Mathlib.Omega.{arith}
 use Rattle.model.specs.Shape.{shape}
-use Rattle.model.proofs.Spots.{spot-middle}
-use Rattle.model.proofs.Taken.{block-in}
+use Rattle.model.proofs.blocks.Spots.{spot-middle}
+use Rattle.model.proofs.blocks.Taken.{block-in}
 use Rattle.engine.proofs.Taking.{gap-room, need-part}
 use Rattle.engine.proofs.Placing.{variable-drawn}
 use borrow.Author.Needs.{needs}

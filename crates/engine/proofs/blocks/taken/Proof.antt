@@ -1,6 +1,6 @@
 use native.Mathlib.Omega.{arith}
 use Rattle.model.specs.Shape.{shape}
-use Rattle.model.proofs.Taken.{takes-low, takes-whole}
+use Rattle.model.proofs.blocks.Taken.{takes-low, takes-whole}
 use borrow.Author.Needs.{needs}
 use Rattle.engine.proofs.blocks.taken.Statement.{statement}
 use Rattle.engine.proofs.blocks.taken.Tie as tie

@@ -1,0 +1,13 @@
+pub mod Blocks
+pub mod Links
+pub mod Replace
+pub mod Valid
+pub mod Remade
+pub mod FreeWalk
+pub mod Middle
+pub mod Releasing
+pub mod Spots
+pub mod Taken
+pub mod Placed
+pub mod Resizing
+pub mod Mending

@@ -1,0 +1,10 @@
+pub mod Items
+pub mod ItemLaws
+pub mod ItemValid
+pub mod Pop
+pub mod PopReads
+pub mod Push
+pub mod Offsets
+pub mod Aligned
+pub mod PageWords
+pub mod Paged

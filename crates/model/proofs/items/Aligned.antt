@@ -1,0 +1,70 @@
+-- Offsets of free items are multiples of a word, so a header's low part, its rest by 16 words, is its class and its flags.
+use Prim.Native.Nat.{ℕ, zero, suc, _+_, _-_, _*_, _/_, _%_, _<_}
+use mathlib.Core.Path.{_≡_, refl, sym, ap, _∙_}
+use mathlib.Core.List.{List, [], _∷_}
+use mathlib.Core.Logic.{⊎-elim}
+use native.Mathlib.Omega.{arith}
+use lib.ListN.{length, getD}
+use borrow.Author.Tests.{eq-eqb, ne-eqb}
+use Rattle.words.specs.Word.{wordAt}
+use Rattle.words.specs.Width.{Width}
+use Rattle.model.specs.Shape.{shape, itemSize, addressOf, offsetOf, start}
+use Rattle.model.specs.Picture.{Shows}
+use Rattle.model.specs.Layout.{Slot, idle, held, Layout, nextOf, header, slotWords}
+use Rattle.model.specs.Sound.{Valid}
+use Rattle.model.specs.Rules.{thing, nothing, inSlots}
+use Rattle.model.proofs.Good.{shape-good}
+use Rattle.model.proofs.pictures.Drawn.{next-of}
+use Rattle.model.proofs.Sizes.{start-eight, class-idle, class-held, zero-even}
+use Rattle.model.proofs.items.Offsets.{items-off}
+use Rattle.model.proofs.walks.Finding.{slots-below}
+
+module _ {w : ℕ} (wd : Width w) where
+  pub next-aligned : (end : ℕ) (L : Layout) → Valid (shape w) end L → (c o : ℕ) → c < 4 * w → nextOf o (getD (L .lists) c []) % w ≡ 0
+  next-aligned end L v c o l =
+      ⊎-elim (zero-even wd _) (λ e. items-off wd c (nextOf o (getD (L .lists) c [])) (start (shape w)) (L .blocks) (v .allowed) (omega arith) (start-eight wd) (rw (v .listed c (nextOf o (getD (L .lists) c [])) l) at e) .even)
+      (next-of o (getD (L .lists) c []))
+
+  -- a page's items, as their headers tell them
+  module _ (b : List ℕ) (l : List ℕ) (c : ℕ) (few : c < 4 * w) (aligned : (o : ℕ) → nextOf o l % w ≡ 0) where
+    pub class-read : (q : ℕ) (x : Slot) (ss : List Slot) → Shows w b (slotWords (shape w) c l q (x ∷ ss)) → wordAt w b q % (16 * w) / 4 ≡ c
+    unfolding slotWords header Shows
+    class-read q idle ss s = rw (s .0) (class-idle wd c (nextOf (offsetOf (shape w) q) l) few (aligned (offsetOf (shape w) q)))
+    class-read q held ss s = rw (s .0) (class-held wd c 0 few)
+
+    -- the item with index i is in use exactly where its header says so
+    pub record SlotRead (a q : ℕ) (ss : List Slot) : Type 0 where
+      pub in-use : wordAt w b (a - w) ≡ 4 * c + 3 → inSlots (shape w) a c q ss ≡ thing (offsetOf (shape w) (a - w)) c
+      pub not-in-use : (wordAt w b (a - w) ≡ 4 * c + 3 → ⊥) → inSlots (shape w) a c q ss ≡ nothing
+
+    pub slot-read : (a q i : ℕ) (ss : List Slot) → i < length ss → a ≡ q + i * itemSize (shape w) c + w → Shows w b (slotWords (shape w) c l q ss) → SlotRead a q ss
+    unfolding slotWords header Shows inSlots
+    slot-read a q i [] h e s = absurd (omega arith)
+    slot-read a q zero (idle ∷ ss) h e s =
+        let z : a - w ≡ q = omega arith in
+        record {
+          in-use = λ k. absurd (omega (arith, s .0, ap (λ (x : ℕ). wordAt w b x) z));
+          not-in-use = λ k. slots-below (shape w) (shape-good wd) a c (q + itemSize (shape w) c) ss (omega arith);
+        }
+    slot-read a q zero (held ∷ ss) h e s =
+        let z : a - w ≡ q = omega arith in
+        let f : a ≡ addressOf (shape w) q = omega arith in
+        record {
+          in-use = λ k. rw (eq-eqb a (addressOf (shape w) q) f) (ap (λ (x : ℕ). thing (offsetOf (shape w) x) c) (sym z));
+          not-in-use = λ k. absurd (k (ap (λ (x : ℕ). wordAt w b x) z ∙ s .0));
+        }
+    slot-read a q (suc i) (idle ∷ ss) h e s =
+        let r = slot-read a (q + itemSize (shape w) c) i ss (omega arith) (omega arith) (s .1) in
+        record { in-use = r .in-use; not-in-use = r .not-in-use }
+    slot-read a q (suc i) (held ∷ ss) h e s =
+        let r = slot-read a (q + itemSize (shape w) c) i ss (omega arith) (omega arith) (s .1) in
+        let n = ne-eqb a (addressOf (shape w) q) (λ f. omega arith) in
+        record { in-use = λ k. rw n (r .in-use k); not-in-use = λ k. rw n (r .not-in-use k) }
+
+  -- an address that is no item's
+  pub slots-none : (a c q : ℕ) (ss : List Slot) → ((i : ℕ) → i < length ss → a ≡ q + i * itemSize (shape w) c + w → ⊥) → inSlots (shape w) a c q ss ≡ nothing
+  unfolding inSlots
+  slots-none a c q [] h = refl
+  slots-none a c q (idle ∷ ss) h = slots-none a c (q + itemSize (shape w) c) ss (λ i l e. h (suc i) (omega arith) (omega arith))
+  slots-none a c q (held ∷ ss) h =
+      rw (ne-eqb a (addressOf (shape w) q) (λ e. h 0 (omega arith) (omega arith))) (slots-none a c (q + itemSize (shape w) c) ss (λ i l e. h (suc i) (omega arith) (omega arith)))

@@ -1,0 +1,9 @@
+pub mod Members
+pub mod Payloads
+pub mod Lives
+pub mod ItemLives
+pub mod Moving
+pub mod Holding
+pub mod LiveFound
+pub mod FreeLives
+pub mod StayLives

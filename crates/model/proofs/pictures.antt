@@ -1,0 +1,7 @@
+pub mod Pictures
+pub mod Drawn
+pub mod Shown
+pub mod Change
+pub mod Relist
+pub mod Heads
+pub mod Written

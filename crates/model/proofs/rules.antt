@@ -1,0 +1,6 @@
+pub mod Fresh
+pub mod Allocation
+pub mod Room
+pub mod OnLayouts
+pub mod Twins
+pub mod Figures

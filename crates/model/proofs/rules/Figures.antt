@@ -1,0 +1,100 @@
+-- Document 01's figures, computed from the definitions: one table, one statement.
+use Prim.Native.Nat.{ℕ, _+_}
+use mathlib.Core.Path.{_≡_, refl}
+use mathlib.Core.Bool.{cond}
+use mathlib.Core.List.{List, [], _∷_}
+use lib.Dec.{eqb}
+use Rattle.model.specs.Picture.{Word}
+use Rattle.model.specs.Shape.{wide, start, leastFree, endOf}
+use Rattle.model.specs.Layout.{Layout, headOf, nextOf, useSize, sizeOf, ends, firstFree, header, slotWords, useWords, own, blockWords, headWords, fixedLow, fixedHigh, words}
+use Rattle.model.specs.Sound.{idleSlots}
+use Rattle.model.specs.Rules.{fit, before, inFront, cut, slotTo, useTo, itemTo, fromList, fromPage, anItem, aBlock, allocate, inSlots, findFrom, freed, shrunk, grown, reshaped, stays, fresh}
+use Rattle.model.specs.Reading.{total, greatest, heldIn, ofBlock, counted}
+use Rattle.model.specs.Promises.{Call, allocating, freeing, resizing}
+use Rattle.model.proofs.rules.OnLayouts.{doing}
+
+-- the value of a picture's word at a position; 9,999,999 where it names none
+wordIn : ℕ → List Word → ℕ
+wordIn p [] = 9999999
+wordIn p (x ∷ xs) = let later = wordIn p xs in cond (eqb p (x .at)) (x .is) later
+
+-- the same, of a layout of a heap of 10,000 bytes
+word : ℕ → Layout → ℕ
+word p L = wordIn p (words wide 10000 L)
+
+-- what a call gives, what it refuses with, and the layout then
+gives : Call → Layout → ℕ
+gives q L = doing wide q L .address
+
+says : Call → Layout → ℕ
+says q L = doing wide q L .refusal
+
+after : Call → Layout → Layout
+after q L = doing wide q L .layout
+
+-- a fresh heap of n bytes, and that of 10,000 after the calls of the list of figures
+freshOf : ℕ → Layout
+freshOf n = fresh wide (endOf n)
+
+H : Layout
+H = freshOf 10000
+
+A : Layout
+A = after (allocating 300) H
+
+B : Layout
+B = after (allocating 16) A
+
+C : Layout
+C = after (freeing 320) B
+
+D : Layout
+D = after (freeing 648) B
+
+R : Layout
+R = after (allocating 600) H
+
+P : Layout
+P = after (allocating 16) H
+
+computed : List ℕ
+computed =
+    (start wide + leastFree wide) ∷ word 312 (freshOf 344) ∷ says (allocating 1) (freshOf 344) ∷ endOf 351
+    ∷ word 24 H ∷ word 312 H
+    ∷ gives (allocating 300) H ∷ word 312 A ∷ word 24 A ∷ word 632 A
+    ∷ gives (allocating 16) A ∷ word 632 B ∷ word 640 B ∷ word 56 B ∷ word 664 B ∷ word 24 B ∷ word 4752 B
+    ∷ word 24 C ∷ word 320 C
+    ∷ gives (allocating 264) C ∷ word 592 (after (allocating 264) C)
+    ∷ gives (allocating 272) C ∷ word 600 (after (allocating 272) C)
+    ∷ gives (allocating 273) C ∷ word 312 (after (allocating 273) C)
+    ∷ word 640 D ∷ word 56 D ∷ says (freeing 648) D
+    ∷ says (allocating 256) (freshOf 4552) ∷ says (allocating 256) (freshOf 4551) ∷ says (allocating 1) (freshOf 4440) ∷ says (allocating 1) (freshOf 4439)
+    ∷ gives (resizing 320 570) R ∷ word 312 (after (resizing 320 570) R) ∷ word 24 (after (resizing 320 570) R) ∷ word 928 (after (resizing 320 570) R)
+    ∷ gives (resizing 320 568) R ∷ word 24 (after (resizing 320 568) R) ∷ word 896 (after (resizing 320 568) R)
+    ∷ gives (resizing 320 700) R ∷ word 24 (after (resizing 320 700) R) ∷ word 1032 (after (resizing 320 700) R)
+    ∷ word 312 (after (allocating 257) H) ∷ says (freeing 48) P ∷ says (freeing 320) P
+    ∷ counted (C .blocks) .freeBytes ∷ counted (C .blocks) .freeBlocks ∷ counted (C .blocks) .largestFree ∷ counted (C .blocks) .variables ∷ counted (C .blocks) .pages ∷ counted (C .blocks) .items
+    ∷ []
+
+expected : List ℕ
+expected =
+    344 ∷ 32 ∷ 6 ∷ 344
+    ∷ 312 ∷ 9688
+    ∷ 320 ∷ 322 ∷ 632 ∷ 9368
+    ∷ 648 ∷ 4123 ∷ 7 ∷ 616 ∷ 10245 ∷ 4752 ∷ 5248
+    ∷ 312 ∷ 4752
+    ∷ 320 ∷ 40
+    ∷ 320 ∷ 32
+    ∷ 320 ∷ 322
+    ∷ 9861 ∷ 592 ∷ 5
+    ∷ 0 ∷ 6 ∷ 0 ∷ 6
+    ∷ 320 ∷ 618 ∷ 928 ∷ 9072
+    ∷ 320 ∷ 896 ∷ 9104
+    ∷ 320 ∷ 1032 ∷ 8968
+    ∷ 282 ∷ 5 ∷ 5
+    ∷ 5568 ∷ 2 ∷ 5248 ∷ 0 ∷ 1 ∷ 1
+    ∷ []
+
+figures : computed ≡ expected
+unfolding computed expected wordIn word gives says after freshOf H A B C D R P doing headOf nextOf useSize sizeOf ends firstFree header slotWords useWords own blockWords headWords fixedLow fixedHigh words idleSlots fit before inFront cut slotTo useTo itemTo fromList fromPage anItem aBlock allocate inSlots findFrom freed shrunk grown reshaped stays total greatest heldIn ofBlock counted
+figures = refl
