@@ -1,13 +1,14 @@
 -- What each way through the search for a live address shows.
 use Prim.Native.Nat.{ℕ, _+_, _-_, _*_, _/_, _%_, _≤_, _<_}
 use mathlib.Core.Path.{_≡_, refl, sym, ap, subst, _∙_}
+use mathlib.Core.Bool.{Bool, true, false}
 use mathlib.Core.List.{List, [], _∷_, _++_, append-nil}
 use native.Mathlib.Nat.{mul-mod-left, div-add-mod', mul-div-cancel}
 use native.Mathlib.Omega.{arith}
 use lib.ListN.{length, getD}
 use Rattle.words.specs.Width.{Width}
 use Rattle.words.specs.Word.{wordAt}
-use Rattle.model.specs.Shape.{shape, itemSize, offsetOf, endOf, start, index}
+use Rattle.model.specs.Shape.{shape, leastFree, itemSize, offsetOf, endOf, start, index}
 use Rattle.model.specs.declared.Position.{Position}
 use Rattle.model.specs.Picture.{Shows}
 use Rattle.model.specs.Layout.{Slot, variable, page, Block, free, used, Layout, nextOf, useSize, slotWords, useWords, own}
@@ -18,7 +19,8 @@ use Rattle.model.proofs.Sizes.{per-page-bound}
 use Rattle.model.proofs.pictures.Pictures.{shows-left}
 use Rattle.model.proofs.blocks.Blocks.{allowed-left, le-ends}
 use Rattle.model.proofs.walks.Standing.{stand-start, PageThere, sized, walk-free, walk-used, is-variable, is-free, is-page}
-use Rattle.model.specs.inner.Walks.{Standing}
+use Rattle.model.specs.Parts.{freeKind, variableKind, sizeIn, kindIn, classIn, heldHeader, firstItemAt}
+use Rattle.model.specs.inner.Walks.{flag, Standing}
 use Rattle.model.proofs.walks.Finding.{behinds, slots-below, find-past, find-below, find-at, find-not-at, find-free, find-page}
 use Rattle.model.proofs.items.Aligned.{next-aligned, class-read, SlotRead, slot-read, slots-none}
 use Rattle.find.specs.declared.Live.the-variants.{Nothing, Item, Variable}
@@ -46,29 +48,30 @@ found-behind {w} wd b L a h l =
     let e : find (shape w) a L ≡ findFrom (shape w) a (start (shape w)) (L .blocks ++ []) = ap (λ (l : List Block). findFrom (shape w) a (start (shape w)) l) (sym (append-nil (L .blocks))) in
     e ∙ find-past (shape w) (shape-good wd) a (start (shape w)) (L .blocks) [] (h .valid .allowed) (omega (arith, h .valid .fills))
 
-module _ {w : ℕ} {b : List ℕ} {p t prev left a : ℕ} (o : OnBlock w b p t prev left a) (L : Layout) (h : Here (shape w) b L) where
-  stands : Standing w L p prev left
+module _ {w : ℕ} {b : List ℕ} {p t prev : ℕ} {touching : Bool} {a : ℕ} (o : OnBlock w b p t prev touching a) (L : Layout) (h : Here (shape w) b L) where
+  stands : Standing w L p prev (flag touching)
   stands = o .standing L h
 
   found-rest : (r : List Block) → stands .rest ≡ r → find (shape w) a L ≡ behinds (stands .pre) (findFrom (shape w) a p r)
   found-rest r e = find-from (o .width) h stands a (o .from) ∙ ap (λ (l : List Block). behinds (stands .pre) (findFrom (shape w) a p l)) e
 
-  pub found-in-free : t % 8 ≡ 0 → Finds w L a Nothing
+  pub found-in-free : kindIn t ≡ freeKind → Finds w L a Nothing
   unfolding Finds
   found-in-free z =
       let r = is-free (o .width) h stands t (o .tag) (omega (arith, o .from, o .below)) z in
       found-rest (free (t / 8 * 8) ∷ r .0) (r .1) ∙ ap (λ (f : Found). behinds (stands .pre) f) (find-free (shape w) (shape-good (o .width)) a p (t / 8 * 8) (r .0) (o .reach))
 
-  pub found-elsewhere : t % 8 ≡ 2 → (a ≡ p + w → ⊥) → Finds w L a Nothing
+  pub found-elsewhere : kindIn t ≡ variableKind → (a ≡ p + w → ⊥) → Finds w L a Nothing
   unfolding Finds
   found-elsewhere z n =
       let r = is-variable (o .width) h stands t (o .tag) (omega (arith, o .from, o .below)) z in
       found-rest (used (variable (t / 8 * 8)) ∷ r .0) (r .1)
       ∙ ap (λ (f : Found). behinds (stands .pre) f) (find-not-at (shape w) (shape-good (o .width)) a p (t / 8 * 8) (r .0) n (o .reach))
 
-  pub found-variable : (at before : Position) → at .0 ≡ p → before .0 ≡ prev → t % 8 ≡ 2 → a ≡ p + w → Finds w L a (Variable (record { at = at; size = t / 8 * 8; prev = before; left = left }))
+  pub found-variable : (at before : Position) (size : ℕ) → at .0 ≡ p → before .0 ≡ prev → size ≡ sizeIn t → kindIn t ≡ variableKind → a ≡ p + w
+      → Finds w L a (Variable (record { at = at; size = size; prev = before; touching = touching }))
   unfolding Finds
-  found-variable at before ea eb z e =
+  found-variable at before size ea eb es z e =
       let r = is-variable (o .width) h stands t (o .tag) (omega (arith, o .from, o .below)) z in
       let spot : Spot = record { pre = stands .pre; size = t / 8 * 8; post = r .0 } in (
         spot,
@@ -77,14 +80,14 @@ module _ {w : ℕ} {b : List ℕ} {p t prev left a : ℕ} (o : OnBlock w b p t p
               ∙ ap (λ (f : Found). behinds (stands .pre) f) (find-at (shape w) (shape-good (o .width)) a p (t / 8 * 8) (r .0) e)
               ∙ ap (λ (l : List Block). block (record { pre = l; size = t / 8 * 8; post = r .0 })) (append-nil (stands .pre));
           at = stands .begins ∙ sym ea;
-          size = refl;
+          size = sym es;
           before = stands .before ∙ sym eb;
           touches = stands .touches;
         },
       )
 
 module _ {w : ℕ} {b : List ℕ} {p a : ℕ} (o : OnPage w b p a) (L : Layout) (h : Here (shape w) b L) where
-  on : OnBlock w b p (o .tag) (o .prev) (o .left) a
+  on : OnBlock w b p (o .tag) (o .prev) (o .touching) a
   on = o .block
 
   there : PageThere (on .width) h (stands on L h) (o .tag) (on .tag) (omega (arith, on .from, on .below))
@@ -131,7 +134,7 @@ module _ {w : ℕ} {b : List ℕ} {p a : ℕ} (o : OnPage w b p a) (L : Layout) 
   page-low l = in-slots nothing (slots-below (shape w) (shape-good (on .width)) a class (p + w) (there .slots) (omega arith))
 
   -- f is the first header, c the class that it says, s the items' size and n their number, as code works them out
-  module _ (f c s n d : ℕ) (ef : f ≡ wordAt w b (p + w)) (ec : c ≡ f % (16 * w) / 4) (es : s ≡ itemSize (shape w) c) (en : n ≡ shape w .perPage c) (from : p + 2 * w ≤ a) (ed : d ≡ a - (p + 2 * w)) where
+  module _ (f c s n d : ℕ) (ef : f ≡ wordAt w b (firstItemAt (shape w) p)) (ec : c ≡ classIn (shape w) f) (es : s ≡ itemSize (shape w) c) (en : n ≡ shape w .perPage c) (from : p + 2 * w ≤ a) (ed : d ≡ a - (p + 2 * w)) where
     class-same : c ≡ class
     class-same = class-is c (ec ∙ ap (λ (x : ℕ). x % (16 * w) / 4) ef)
 
@@ -167,11 +170,11 @@ module _ {w : ℕ} {b : List ℕ} {p a : ℕ} (o : OnPage w b p a) (L : Layout) 
           let g : d / s * itemSize (shape w) class ≡ d = ap (λ (x : ℕ). d / s * x) (sym size-same) ∙ e in
           slot-read (on .width) b (getD (L .lists) class []) class class-few aligned a (p + w) (d / s) (there .slots) (omega (arith, count-same)) (omega (arith, g, ed)) slots-shown
 
-      pub page-idle : (x ≡ 4 * c + 3 → ⊥) → Finds w L a Nothing
+      pub page-idle : (x ≡ heldHeader c → ⊥) → Finds w L a Nothing
       unfolding Finds
       page-idle z = in-slots nothing (read .not-in-use (λ e. z (omega (arith, ew, e, class-same))))
 
-      pub page-held : x ≡ 4 * c + 3 → Finds w L a (Item q c)
+      pub page-held : x ≡ heldHeader c → Finds w L a (Item q c)
       unfolding Finds
       page-held z =
           (omega (arith, start-low, eq), in-slots (thing (offsetOf (shape w) (a - w)) class) (read .in-use (omega (arith, ew, class-same))) ∙ rw (eq, class-same) refl)
@@ -185,33 +188,33 @@ unfolding Finds
 found-before {w} wd L a l = find-below (shape w) (shape-good wd) a (start (shape w)) (L .blocks) (omega arith)
 
 -- the walk towards a stands at p
-pub record Looking (w : ℕ) (b : List ℕ) (a p prev left : ℕ) : Type 0 where
+pub record Looking (w : ℕ) (b : List ℕ) (a p prev : ℕ) (touching : Bool) : Type 0 where
   pub width : Width w
   pub sound : Sound (shape w) b
-  pub standing : (L : Layout) → Here (shape w) b L → Standing w L p prev left
+  pub standing : (L : Layout) → Here (shape w) b L → Standing w L p prev (flag touching)
   pub from : p ≤ a
   pub below : a < endOf (length b)
 
-pub look-start : {w : ℕ} → Width w → (b : List ℕ) (a p : ℕ) → Sound (shape w) b → p ≡ start (shape w) → p ≤ a → a < endOf (length b) → Looking w b a p 0 0
+pub look-start : {w : ℕ} → Width w → (b : List ℕ) (a p : ℕ) → Sound (shape w) b → p ≡ start (shape w) → p ≤ a → a < endOf (length b) → Looking w b a p 0 false
 look-start {w} wd b a p s e l m = record { width = wd; sound = s; standing = λ L h. rw e (stand-start w L); from = l; below = m }
 
-module _ {w : ℕ} {b : List ℕ} {a p prev left : ℕ} (k : Looking w b a p prev left) where
+module _ {w : ℕ} {b : List ℕ} {a p prev : ℕ} {touching : Bool} (k : Looking w b a p prev touching) where
   -- the block at p is within the heap
-  pub look-inside : p < a → (t : ℕ) → t ≡ wordAt w b p → (4 * w ≤ t / 8 * 8) × (p + t / 8 * 8 ≤ endOf (length b))
+  pub look-inside : p < a → (t : ℕ) → t ≡ wordAt w b p → (leastFree (shape w) ≤ sizeIn t) × (p + sizeIn t ≤ endOf (length b))
   look-inside l t e =
       let z = sized (k .width) (k .sound .here) (k .standing (k .sound .layout) (k .sound .here)) t e (omega (arith, k .below)) in
       (z .least, z .inside)
 
-  pub look-on : (t : ℕ) → t ≡ wordAt w b p → a < p + t / 8 * 8 → OnBlock w b p t prev left a
+  pub look-on : (t : ℕ) → t ≡ wordAt w b p → a < p + sizeIn t → OnBlock w b p t prev touching a
   look-on t e r = record { width = k .width; sound = k .sound; standing = k .standing; tag = e; from = k .from; reach = r; below = k .below }
 
-  pub look-past-free : p < a → (t : ℕ) → t ≡ wordAt w b p → p + t / 8 * 8 ≤ a → t % 8 ≡ 0 → Looking w b a (p + t / 8 * 8) p 1
-  look-past-free l t e r z =
-      record { width = k .width; sound = k .sound; standing = λ L h. walk-free (k .width) h (k .standing L h) t e (omega (arith, k .below)) z; from = r; below = k .below }
+  pub look-past-free : p < a → (t s : ℕ) → t ≡ wordAt w b p → s ≡ sizeIn t → p + s ≤ a → kindIn t ≡ freeKind → Looking w b a (p + s) p true
+  look-past-free l t s e es r z =
+      record { width = k .width; sound = k .sound; standing = λ L h. rw es (walk-free (k .width) h (k .standing L h) t e (omega (arith, k .below)) z); from = r; below = k .below }
 
-  pub look-past-used : p < a → (t : ℕ) → t ≡ wordAt w b p → p + t / 8 * 8 ≤ a → (t % 8 ≡ 0 → ⊥) → Looking w b a (p + t / 8 * 8) prev 0
-  look-past-used l t e r z =
-      record { width = k .width; sound = k .sound; standing = λ L h. walk-used (k .width) h (k .standing L h) t e (omega (arith, k .below)) z; from = r; below = k .below }
+  pub look-past-used : p < a → (t s : ℕ) → t ≡ wordAt w b p → s ≡ sizeIn t → p + s ≤ a → (kindIn t ≡ freeKind → ⊥) → Looking w b a (p + s) prev false
+  look-past-used l t s e es r z =
+      record { width = k .width; sound = k .sound; standing = λ L h. rw es (walk-used (k .width) h (k .standing L h) t e (omega (arith, k .below)) z); from = r; below = k .below }
 
   pub look-end : a ≤ p → (L : Layout) → Here (shape w) b L → Finds w L a Nothing
   look-end l L h = found-between (k .width) h (k .standing L h) a (omega (arith, k .from))

@@ -1,26 +1,28 @@
 -- What the search for a live address asks and promises.
 use Prim.Native.Nat.{ℕ, _+_, _*_, _/_, _%_, _≤_, _<_}
 use mathlib.Core.Path.{_≡_}
+use mathlib.Core.Bool.{Bool}
 use mathlib.Core.List.{List}
 use lib.ListN.{length}
 use Rattle.words.specs.Width.{Width}
 use Rattle.words.specs.Word.{wordAt}
 use Rattle.model.specs.Shape.{shape, offsetOf, endOf, index, start}
+use Rattle.model.specs.Parts.{freeKind, variableKind, sizeIn, kindIn}
 use Rattle.model.specs.Layout.{Layout, ends}
 use Rattle.model.specs.Sound.{Here, Sound}
 use Rattle.model.specs.Rules.{Spot, block, thing, nothing, find}
-use Rattle.model.specs.inner.Walks.{lastFree, endsFree, Standing}
-use Rattle.find.specs.declared.Block.{Block}
+use Rattle.model.specs.inner.Walks.{flag, lastFree, endsFree, Standing}
+use Rattle.find.specs.declared.VariableBlock.{VariableBlock}
 use Rattle.find.specs.declared.Live.{Live}
 use Rattle.find.specs.declared.Live.the-variants.{Nothing, Item, Variable}
 
 -- x is the variable block of the spot t, found at a
-pub record BlockFound (w : ℕ) (L : Layout) (a : ℕ) (t : Spot) (x : Block) : Type 0 where
+pub record BlockFound (w : ℕ) (L : Layout) (a : ℕ) (t : Spot) (x : VariableBlock) : Type 0 where
   pub found : find (shape w) a L ≡ block t
   pub at : ends (shape w) (start (shape w)) (t .pre) ≡ x .at .0
   pub size : t .size ≡ x .size
   pub before : lastFree (shape w) (start (shape w)) (t .pre) 0 ≡ x .prev .0
-  pub touches : endsFree 0 (t .pre) ≡ x .left
+  pub touches : endsFree 0 (t .pre) ≡ flag (x .touching)
 
 -- an answer says what is found at a
 unfoldable pub Finds : ℕ → Layout → ℕ → Live → Type 0
@@ -29,20 +31,20 @@ Finds w L a (Item q c) = (index (shape w) ≤ q .0) × (find (shape w) a L ≡ t
 Finds w L a (Variable x) = (t : Spot) × BlockFound w L a t x
 
 -- the walk stands at p, and the block there, of tag t, reaches past the address a
-pub record OnBlock (w : ℕ) (b : List ℕ) (p t prev left a : ℕ) : Type 0 where
+pub record OnBlock (w : ℕ) (b : List ℕ) (p t prev : ℕ) (touching : Bool) (a : ℕ) : Type 0 where
   pub width : Width w
   pub sound : Sound (shape w) b
-  pub standing : (L : Layout) → Here (shape w) b L → Standing w L p prev left
+  pub standing : (L : Layout) → Here (shape w) b L → Standing w L p prev (flag touching)
   pub tag : t ≡ wordAt w b p
   pub from : p ≤ a
-  pub reach : a < p + t / 8 * 8
+  pub reach : a < p + sizeIn t
   pub below : a < endOf (length b)
 
 -- and that block is a page
 pub record OnPage (w : ℕ) (b : List ℕ) (p a : ℕ) : Type 0 where
   pub tag : ℕ
   pub prev : ℕ
-  pub left : ℕ
-  pub block : OnBlock w b p tag prev left a
-  pub not-free : tag % 8 ≡ 0 → ⊥
-  pub not-variable : tag % 8 ≡ 2 → ⊥
+  pub touching : Bool
+  pub block : OnBlock w b p tag prev touching a
+  pub not-free : kindIn tag ≡ freeKind → ⊥
+  pub not-variable : kindIn tag ≡ variableKind → ⊥

@@ -1,11 +1,18 @@
 // What is live at an address: found by one walk over the blocks below it, so that no payload and no stale word can pass for a tag.
 use model::Address;
+use model::FREE;
 use model::Position;
+use model::VARIABLE;
 use model::address_of;
 use model::class_in;
+use model::end_of;
+use model::first_item_at;
+use model::held_header;
 use model::item_size;
 use model::items_in_page;
+use model::kind_in;
 use model::position_of;
+use model::size_in;
 use model::start;
 use words::word;
 ghost use mathlib.Core.Path.{_≡_};
@@ -17,19 +24,19 @@ ghost use Rattle.model.specs.Layout.{Layout};
 ghost use Rattle.model.specs.Sound.{Here, Sound};
 ghost use Rattle.find.specs.Find.{Finds, OnBlock, OnPage};
 
-// A variable block: where it stands, its size, the last free block before it (0: none), and whether that touches it (1) or not (0).
-pub struct Block {
+// A variable block: where it stands, its size, the last free block before it (0: none), and whether that touches it.
+pub struct VariableBlock {
     pub at: Position,
     pub size: usize,
     pub prev: Position,
-    pub left: usize,
+    pub touching: bool,
 }
 
 // What is live at an address: an item, by its header's position and its class; a variable block; or nothing.
 pub enum Live {
     Nothing,
     Item(Position, usize),
-    Variable(Block),
+    Variable(VariableBlock),
 }
 
 // The item whose payload begins at a, in the page at p.
@@ -37,11 +44,12 @@ fn in_page(w: usize, h: &[u8], p: Position, a: Address) -> Live
     requires { ⌜ OnPage w (now h) (p .0) (a .0) ⌝ }
     ensures { λ r. ⌜ ((L : Layout) → Here (shape w) (now (h .entry)) L → Finds w L (a .0) r) ⌝ }
 {
-    let first = address_of(w, Position(p.0 + w));
+    let item = first_item_at(w, p);
+    let first = address_of(w, item);
     if a.0 < first.0 {
         return Live::Nothing;
     }
-    let c = class_in(w, word(w, h, p.0 + w));
+    let c = class_in(w, word(w, h, item.0));
     let size = item_size(w, c);
     let d = a.0 - first.0;
     if d % size != 0 {
@@ -51,7 +59,7 @@ fn in_page(w: usize, h: &[u8], p: Position, a: Address) -> Live
         return Live::Nothing;
     }
     let q = position_of(w, a);
-    if word(w, h, q.0) != 4 * c + 3 {
+    if word(w, h, q.0) != held_header(c) {
         return Live::Nothing;
     }
     Live::Item(q, c)
@@ -64,26 +72,27 @@ fn in_block(
     p: Position,
     t: usize,
     prev: Position,
-    left: usize,
+    touching: bool,
     a: Address,
 ) -> Live
-    requires { ⌜ OnBlock w (now h) (p .0) t (prev .0) left (a .0) ⌝ }
+    requires { ⌜ OnBlock w (now h) (p .0) t (prev .0) touching (a .0) ⌝ }
     ensures { λ r. ⌜ ((L : Layout) → Here (shape w) (now (h .entry)) L → Finds w L (a .0) r) ⌝ }
 {
-    if t % 8 == 0 {
+    let kind = kind_in(t);
+    if kind == FREE {
         return Live::Nothing;
     }
-    if t % 8 != 2 {
+    if kind != VARIABLE {
         return in_page(w, h, p, a);
     }
     if a.0 != address_of(w, p).0 {
         return Live::Nothing;
     }
-    Live::Variable(Block {
+    Live::Variable(VariableBlock {
         at: p,
-        size: t / 8 * 8,
+        size: size_in(t),
         prev: prev,
-        left: left,
+        touching: touching,
     })
 }
 
@@ -92,28 +101,27 @@ pub fn find(w: usize, h: &[u8], a: Address) -> Live
     requires { ⌜ Width w × Sound (shape w) (now h) ⌝ }
     ensures { λ r. ⌜ ((L : Layout) → Here (shape w) (now (h .entry)) L → Finds w L (a .0) r) ⌝ }
 {
-    let data = start(w);
-    if a.0 < data {
+    let mut p = start(w);
+    if a.0 < p.0 {
         return Live::Nothing;
     }
-    if h.len() / 8 * 8 <= a.0 {
+    if end_of(h.len()).0 <= a.0 {
         return Live::Nothing;
     }
-    let mut p = Position(data);
     let mut prev = Position(0);
-    let mut left = 0;
+    let mut touching = false;
     while p.0 < a.0 {
         let t = word(w, h, p.0);
-        let next = Position(p.0 + t / 8 * 8);
+        let next = Position(p.0 + size_in(t));
         if a.0 < next.0 {
-            return in_block(w, h, p, t, prev, left, a);
+            return in_block(w, h, p, t, prev, touching, a);
         }
-        if t % 8 == 0 {
+        if kind_in(t) == FREE {
             prev = p;
-            left = 1;
+            touching = true;
             p = next;
         } else {
-            left = 0;
+            touching = false;
             p = next;
         }
     }

@@ -26,6 +26,10 @@ page-product k c n s l e f = rw (e, f) (page-items-bound k c l, refl)
 pub class-few : {w : ℕ} → Width w → (x : ℕ) → x % (16 * w) / 4 < 4 * w
 class-few {w} k x = widths (λ w. x % (16 * w) / 4 < 4 * w) (omega arith) (omega arith) w k
 
+-- the offset that a header names is no more than the header
+pub next-small : {w : ℕ} → Width w → (x : ℕ) → x / (16 * w) * w ≤ x
+next-small {w} k x = widths (λ w. x / (16 * w) * w ≤ x) (omega arith) (omega arith) w k
+
 -- a page's size is a multiple of 8, and no less than a free block's
 pub page-eight : {w : ℕ} → Width w → (c : ℕ) → (2 * w + shape w .perPage c * itemSize (shape w) c) % 8 ≡ 0
 page-eight {w} k c = widths (λ w. (2 * w + shape w .perPage c * itemSize (shape w) c) % 8 ≡ 0) (omega arith) (omega arith) w k

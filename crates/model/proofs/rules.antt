@@ -4,3 +4,4 @@ pub mod Room
 pub mod OnLayouts
 pub mod Twins
 pub mod Figures
+pub mod HandFigures

@@ -1,62 +1,10 @@
-// A heap of words of w bytes in code, document 01's at 8 and the hand unit's at 4: its fixed places, the three ways of counting a place, and the sizes of items, pages and blocks.
+// A heap of words of w bytes in code, document 01's at 8 and the hand unit's at 4: the three ways of counting a place, and each part of a heap by name.
+// What follows from w is folded away where a program gives it as a constant.
 ghost use mathlib.Core.Path.{_≡_};
-ghost use Prim.Native.Nat.{_+_, _-_, _*_, _/_, _%_, _≤_, _<_, _^_};
+ghost use Prim.Native.Nat.{_+_, _*_, _≤_, _<_, _^_};
 ghost use Rattle.words.specs.Width.{Width};
-ghost use Rattle.model.specs.Shape.{shape, start, classOf, needOf, itemSize, pageNeed, addressOf, positionOf, offsetOf, itemAt};
-
-// The first eight bytes of an opened heap, as one word of eight bytes.
-pub fn magic(w: usize) -> usize
-    ensures { λ r. ⌜ r ≡ shape w .magic ⌝ }
-{
-    if w == 8 {
-        0x01636f6c6c617978
-    } else {
-        0x02636f6c6c617978
-    }
-}
-
-// The shortest and the longest heap; the largest size that can be asked for is the same as the latter.
-pub const SHORTEST: usize = 344;
-
-pub const LONGEST: usize = 1048576;
-
-// Where the header names the first free block; where the index page begins; where the data area begins.
-pub fn first_free(w: usize) -> usize
-    requires { ⌜ Width w ⌝ }
-    ensures { λ r. ⌜ r ≡ 8 + 2 * w ⌝ }
-{
-    8 + 2 * w
-}
-
-pub fn index(w: usize) -> usize
-    requires { ⌜ Width w ⌝ }
-    ensures { λ r. ⌜ r ≡ 8 + 5 * w ⌝ }
-{
-    8 + 5 * w
-}
-
-pub fn start(w: usize) -> usize
-    requires { ⌜ Width w ⌝ }
-    ensures { λ r. ⌜ r ≡ 8 + 5 * w + w * (4 * w) + w ⌝ }
-{
-    8 + 6 * w + 4 * w * w
-}
-
-// Where the list of class c begins, in the index page.
-pub fn head_at(w: usize, c: usize) -> usize
-    requires { ⌜ Width w × (c < 4 * w) ⌝ }
-    ensures { λ r. ⌜ (r ≡ 8 + 5 * w + w * c) × (r + w ≤ start (shape w)) ⌝ }
-{
-    8 + 5 * w + w * c
-}
-
-// The tag of the index page's block.
-pub fn index_tag(w: usize) -> usize
-    requires { ⌜ Width w ⌝ }
-    ensures { λ r. ⌜ r ≡ w * (4 * w) + 2 * w + 3 ⌝ }
-{
-    4 * w * w + 2 * w + 3
-}
+ghost use Rattle.model.specs.Shape.{shape, endOf, classOf, needOf, index, start, tags, leastFree, shortest, leastVariable, largestItem, itemSize, itemCapacity, blockCapacity, pageNeed, addressOf, positionOf, offsetOf, itemAt};
+ghost use Rattle.model.specs.Parts.{tagOf, sizeIn, kindIn, freeHeader, heldHeader, freeMark, classAndFlags, classIn, nextIn, dataAt, indexAt, firstFreeAt, endAt, indexTag, indexTagAt, indexFarTagAt, headAt, farTagAt, nextAt, previousAt, firstItemAt};
 
 // A place counted in bytes from the start of the buffer.
 pub struct Position(pub usize);
@@ -64,6 +12,13 @@ pub struct Position(pub usize);
 pub struct Address(pub usize);
 // A place counted in bytes from the index page.
 pub struct ItemOffset(pub usize);
+
+// What a block is, as its tag says.
+pub const FREE: usize = 0;
+
+pub const VARIABLE: usize = 2;
+
+pub const PAGE: usize = 3;
 
 // The address of the payload behind the tag or header at p.
 pub fn address_of(w: usize, p: Position) -> Address
@@ -83,10 +38,10 @@ pub fn position_of(w: usize, a: Address) -> Position
 
 // The item offset of the item whose header stands at p.
 pub fn offset_of(w: usize, p: Position) -> ItemOffset
-    requires { ⌜ Width w × (8 + 5 * w ≤ p .0) ⌝ }
+    requires { ⌜ Width w × (index (shape w) ≤ p .0) ⌝ }
     ensures { λ r. ⌜ r .0 ≡ offsetOf (shape w) (p .0) ⌝ }
 {
-    ItemOffset(p.0 - index(w))
+    ItemOffset(p.0 - index(w).0)
 }
 
 // The position of the header of the item with offset o.
@@ -94,7 +49,205 @@ pub fn item_at(w: usize, o: ItemOffset) -> Position
     requires { ⌜ Width w × (o .0 < 2 ^ 63) ⌝ }
     ensures { λ r. ⌜ r .0 ≡ itemAt (shape w) (o .0) ⌝ }
 {
-    Position(index(w) + o.0)
+    Position(index(w).0 + o.0)
+}
+
+// The first eight bytes of an opened heap, as one word of eight bytes.
+pub fn magic(w: usize) -> usize
+    ensures { λ r. ⌜ r ≡ shape w .magic ⌝ }
+{
+    if w == 8 {
+        0x01636f6c6c617978
+    } else {
+        0x02636f6c6c617978
+    }
+}
+
+// The shortest and the longest heap; the largest size that can be asked for is the same as the latter.
+pub fn shortest(w: usize) -> usize
+    requires { ⌜ Width w ⌝ }
+    ensures { λ r. ⌜ r ≡ shortest (shape w) ⌝ }
+{
+    start(w).0 + least_free(w)
+}
+
+pub fn longest(w: usize) -> usize
+    ensures { λ r. ⌜ r ≡ shape w .most ⌝ }
+{
+    if w == 8 { 1048576 } else { 65536 }
+}
+
+// The end of a heap of n bytes.
+pub fn end_of(n: usize) -> Position
+    ensures { λ r. ⌜ r .0 ≡ endOf n ⌝ }
+{
+    Position(n / 8 * 8)
+}
+
+// The heap's header: where it names the data area, the index page, the first free block and the end.
+pub fn data_at(w: usize) -> Position
+    ensures { λ r. ⌜ r .0 ≡ dataAt (shape w) ⌝ }
+{
+    Position(8)
+}
+
+pub fn index_at(w: usize) -> Position
+    requires { ⌜ Width w ⌝ }
+    ensures { λ r. ⌜ r .0 ≡ indexAt (shape w) ⌝ }
+{
+    Position(8 + w)
+}
+
+pub fn first_free_at(w: usize) -> Position
+    requires { ⌜ Width w ⌝ }
+    ensures { λ r. ⌜ r .0 ≡ firstFreeAt (shape w) ⌝ }
+{
+    Position(8 + 2 * w)
+}
+
+pub fn end_at(w: usize) -> Position
+    requires { ⌜ Width w ⌝ }
+    ensures { λ r. ⌜ r .0 ≡ endAt (shape w) ⌝ }
+{
+    Position(8 + 3 * w)
+}
+
+// The tag of the index page's block, and where it stands before and behind that page.
+pub fn index_tag(w: usize) -> usize
+    requires { ⌜ Width w ⌝ }
+    ensures { λ r. ⌜ r ≡ indexTag (shape w) ⌝ }
+{
+    4 * w * w + 2 * w + PAGE
+}
+
+pub fn index_tag_at(w: usize) -> Position
+    requires { ⌜ Width w ⌝ }
+    ensures { λ r. ⌜ r .0 ≡ indexTagAt (shape w) ⌝ }
+{
+    Position(8 + 4 * w)
+}
+
+pub fn index_far_tag_at(w: usize) -> Position
+    requires { ⌜ Width w ⌝ }
+    ensures { λ r. ⌜ r .0 ≡ indexFarTagAt (shape w) ⌝ }
+{
+    Position(start(w).0 - w)
+}
+
+// Where the index page begins; where the data area begins.
+pub fn index(w: usize) -> Position
+    requires { ⌜ Width w ⌝ }
+    ensures { λ r. ⌜ r .0 ≡ index (shape w) ⌝ }
+{
+    Position(8 + 5 * w)
+}
+
+pub fn start(w: usize) -> Position
+    requires { ⌜ Width w ⌝ }
+    ensures { λ r. ⌜ r .0 ≡ start (shape w) ⌝ }
+{
+    Position(8 + 6 * w + 4 * w * w)
+}
+
+// How many classes there are; where the list of class c begins, in the index page.
+pub fn classes(w: usize) -> usize
+    requires { ⌜ Width w ⌝ }
+    ensures { λ r. ⌜ r ≡ shape w .classes ⌝ }
+{
+    4 * w
+}
+
+pub fn head_at(w: usize, c: usize) -> Position
+    requires { ⌜ Width w × (c < shape w .classes) ⌝ }
+    ensures { λ r. ⌜ (r .0 ≡ headAt (shape w) c) × (r .0 + w ≤ start (shape w)) ⌝ }
+{
+    Position(8 + 5 * w + w * c)
+}
+
+// A tag: a block's size plus its kind; and what a tag says.
+pub fn tag_of(s: usize, kind: usize) -> usize
+    requires { ⌜ s + kind < 2 ^ 64 ⌝ }
+    ensures { λ r. ⌜ r ≡ tagOf s kind ⌝ }
+{
+    s + kind
+}
+
+pub fn size_in(t: usize) -> usize
+    ensures { λ r. ⌜ r ≡ sizeIn t ⌝ }
+{
+    t / 8 * 8
+}
+
+pub fn kind_in(t: usize) -> usize
+    ensures { λ r. ⌜ r ≡ kindIn t ⌝ }
+{
+    t % 8
+}
+
+// Of a block of size s at p: where its far tag stands; of a free one, where its links to the next and to the previous free block do; of a page, its first item.
+pub fn far_tag_at(w: usize, p: Position, s: usize) -> Position
+    requires { ⌜ (w ≤ p .0 + s) × (p .0 + s < 2 ^ 64) ⌝ }
+    ensures { λ r. ⌜ r .0 ≡ farTagAt (shape w) (p .0) s ⌝ }
+{
+    Position(p.0 + s - w)
+}
+
+pub fn next_at(w: usize, p: Position) -> Position
+    requires { ⌜ p .0 + w < 2 ^ 64 ⌝ }
+    ensures { λ r. ⌜ r .0 ≡ nextAt (shape w) (p .0) ⌝ }
+{
+    Position(p.0 + w)
+}
+
+pub fn previous_at(w: usize, p: Position, s: usize) -> Position
+    requires { ⌜ Width w × (tags (shape w) ≤ p .0 + s) × (p .0 + s < 2 ^ 64) ⌝ }
+    ensures { λ r. ⌜ r .0 ≡ previousAt (shape w) (p .0) s ⌝ }
+{
+    Position(p.0 + s - 2 * w)
+}
+
+pub fn first_item_at(w: usize, p: Position) -> Position
+    requires { ⌜ p .0 + w < 2 ^ 64 ⌝ }
+    ensures { λ r. ⌜ r .0 ≡ firstItemAt (shape w) (p .0) ⌝ }
+{
+    Position(p.0 + w)
+}
+
+// The least free block, and the least remainder that stays free; the least variable block; the largest item.
+pub fn least_free(w: usize) -> usize
+    requires { ⌜ Width w ⌝ }
+    ensures { λ r. ⌜ r ≡ leastFree (shape w) ⌝ }
+{
+    4 * w
+}
+
+pub fn least_variable(w: usize) -> usize
+    requires { ⌜ Width w ⌝ }
+    ensures { λ r. ⌜ r ≡ leastVariable (shape w) ⌝ }
+{
+    largest_item(w) + 8 + 2 * w
+}
+
+pub fn largest_item(w: usize) -> usize
+    requires { ⌜ Width w ⌝ }
+    ensures { λ r. ⌜ r ≡ largestItem (shape w) ⌝ }
+{
+    8 * classes(w)
+}
+
+// What a variable block of size s holds; the whole size of a block for n bytes, a size above the largest item.
+pub fn block_capacity(w: usize, s: usize) -> usize
+    requires { ⌜ Width w × (tags (shape w) ≤ s) ⌝ }
+    ensures { λ r. ⌜ r ≡ blockCapacity (shape w) s ⌝ }
+{
+    s - 2 * w
+}
+
+pub fn need_of(w: usize, n: usize) -> usize
+    requires { ⌜ Width w × (n < 2 ^ 63) ⌝ }
+    ensures { λ r. ⌜ r ≡ needOf (shape w) n ⌝ }
+{
+    (n + 7) / 8 * 8 + 2 * w
 }
 
 // The class of a size.
@@ -105,49 +258,77 @@ pub fn class_of(n: usize) -> usize
     (n - 1) / 8
 }
 
-// What an item of class c takes, with its header.
+// What an item of class c takes, with its header; what it holds.
 pub fn item_size(w: usize, c: usize) -> usize
-    requires { ⌜ Width w × (c < 4 * w) ⌝ }
+    requires { ⌜ Width w × (c < shape w .classes) ⌝ }
     ensures { λ r. ⌜ r ≡ itemSize (shape w) c ⌝ }
 {
-    8 * c + 8 + w
+    item_capacity(w, c) + w
+}
+
+pub fn item_capacity(w: usize, c: usize) -> usize
+    requires { ⌜ Width w × (c < shape w .classes) ⌝ }
+    ensures { λ r. ⌜ r ≡ itemCapacity (shape w) c ⌝ }
+{
+    8 * c + 8
 }
 
 // The items of a page of class c. No other place works this out.
 pub fn items_in_page(w: usize, c: usize) -> usize
-    requires { ⌜ Width w × (c < 4 * w) ⌝ }
+    requires { ⌜ Width w × (c < shape w .classes) ⌝ }
     ensures { λ r. ⌜ r ≡ shape w .perPage c ⌝ }
 {
     if w == 8 { 4096 / (8 * c + 16) + 1 } else { 2 }
 }
 
-// The whole size of a block for a size above the largest item.
-pub fn need_of(w: usize, n: usize) -> usize
-    requires { ⌜ Width w × (n ≤ 1048576) ⌝ }
-    ensures { λ r. ⌜ r ≡ needOf (shape w) n ⌝ }
-{
-    (n + 7) / 8 * 8 + 2 * w
-}
-
 // The least size of a page of class c.
 pub fn page_need(w: usize, c: usize) -> usize
-    requires { ⌜ Width w × (c < 4 * w) ⌝ }
+    requires { ⌜ Width w × (c < shape w .classes) ⌝ }
     ensures { λ r. ⌜ r ≡ pageNeed (shape w) c ⌝ }
 {
     2 * w + items_in_page(w, c) * item_size(w, c)
 }
 
-// What the header x of an item says: its low part, with class and flags; its class; and the place, in words from the index page, of the item after it.
-pub fn low_part(w: usize, x: usize) -> usize
+// The header of a free item of class c with the item at `next` after it on its list; its class and flags alone; and the header of an item in use.
+pub fn free_header(c: usize, next: ItemOffset) -> usize
+    requires { ⌜ freeHeader c (next .0) < 2 ^ 64 ⌝ }
+    ensures { λ r. ⌜ r ≡ freeHeader c (next .0) ⌝ }
+{
+    16 * next.0 + 4 * c + 1
+}
+
+pub fn free_mark(c: usize) -> usize
+    requires { ⌜ c < 2 ^ 32 ⌝ }
+    ensures { λ r. ⌜ r ≡ freeMark c ⌝ }
+{
+    4 * c + 1
+}
+
+pub fn held_header(c: usize) -> usize
+    requires { ⌜ c < 2 ^ 32 ⌝ }
+    ensures { λ r. ⌜ r ≡ heldHeader c ⌝ }
+{
+    4 * c + 3
+}
+
+// What the header x of an item says: its class and its flags in one, its class, and the item after it on its list.
+pub fn class_and_flags(w: usize, x: usize) -> usize
     requires { ⌜ Width w ⌝ }
-    ensures { λ r. ⌜ r ≡ x % (16 * w) ⌝ }
+    ensures { λ r. ⌜ r ≡ classAndFlags (shape w) x ⌝ }
 {
     x % (16 * w)
 }
 
 pub fn class_in(w: usize, x: usize) -> usize
     requires { ⌜ Width w ⌝ }
-    ensures { λ r. ⌜ (r ≡ x % (16 * w) / 4) × (r < 4 * w) ⌝ }
+    ensures { λ r. ⌜ (r ≡ classIn (shape w) x) × (r < shape w .classes) ⌝ }
 {
-    x % (16 * w) / 4
+    class_and_flags(w, x) / 4
+}
+
+pub fn next_in(w: usize, x: usize) -> ItemOffset
+    requires { ⌜ Width w ⌝ }
+    ensures { λ r. ⌜ r .0 ≡ nextIn (shape w) x ⌝ }
+{
+    ItemOffset(x / (16 * w) * w)
 }

@@ -1,6 +1,7 @@
 -- Where a walk over the blocks stands, and what it has found. Contracts of inner calls name these; no public contract does, so no reader has to believe them.
 use Prim.Native.Nat.{ℕ, _+_, _≤_}
 use mathlib.Core.Path.{_≡_}
+use mathlib.Core.Bool.{Bool, cond}
 use mathlib.Core.List.{List, [], _∷_, _++_}
 use mathlib.Core.Logic.{_⊎_}
 use mathlib.Core.Option.{Option, none, some}
@@ -8,6 +9,10 @@ use Rattle.model.specs.Shape.{Shape, shape, start}
 use Rattle.model.specs.Layout.{Use, variable, Block, free, used, Layout, ifFree, useSize, sizeOf, ends}
 use Rattle.model.specs.Sound.{Here}
 use Rattle.model.specs.Rules.{Spot}
+
+-- whether something is so, as the number 1 or 0
+abbrev pub flag : Bool → ℕ
+flag b = cond b 1 0
 
 -- 1 where the last of the blocks is free, d where there is none
 unfoldable pub endsFree : ℕ → List Block → ℕ
@@ -77,7 +82,7 @@ module _ (S : Shape) where
   abbrev pub Mend : Layout → ℕ → ℕ → ℕ → ℕ → ℕ → Type 0
   Mend L p s prev left before = Stands L p s prev left ⊎ (RestLeft L p s prev left ⊎ NoneLeft L p s prev before)
 
--- the walk stands at p; the last free block before p is at prev, 0 where there is none; left is 1 where it touches p
+-- the walk stands at p; the last free block before p is at prev, 0 where there is none; left is 1 where that touches p, else 0
 pub record Standing (w : ℕ) (L : Layout) (p prev left : ℕ) : Type 0 where
   pub pre : List Block
   pub rest : List Block
