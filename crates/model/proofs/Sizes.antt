@@ -7,8 +7,12 @@ use Rattle.words.specs.Width.{Width}
 use Rattle.words.proofs.WidthLaws.{widths}
 use Rattle.model.specs.Shape.{shape, start, index, leastVariable, needOf, itemSize, pageNeed}
 
+-- document 01's word, and the hand unit's
 pub eight : Width 8
 eight = omega arith
+
+pub four : Width 4
+four = omega arith
 
 pub per-page-bound : {w : ℕ} → Width w → (c : ℕ) → (1 ≤ shape w .perPage c) × (shape w .perPage c ≤ 4097)
 per-page-bound {w} k c = widths (λ w. (1 ≤ shape w .perPage c) × (shape w .perPage c ≤ 4097)) (omega arith) (omega (arith, div-le-self 4096 (8 * c + 16))) w k
@@ -66,6 +70,14 @@ zero-even {w} k n = widths (λ w. n ≡ 0 → n % w ≡ 0) (omega arith) (omega 
 -- a header that names a place in the longest heap fits a word
 pub words-fit : {w : ℕ} → Width w → (n : ℕ) → n ≤ shape w .most → 16 * n + 4 * (4 * w) + 64 * w + 64 < 256 ^ w
 words-fit {w} k n = widths (λ w. n ≤ shape w .most → 16 * n + 4 * (4 * w) + 64 * w + 64 < 256 ^ w) (omega arith) (omega arith) w k
+
+-- the magic number is a word of eight bytes
+pub magic-fits : {w : ℕ} → Width w → shape w .magic < 256 ^ 8
+magic-fits {w} k = widths (λ w. shape w .magic < 256 ^ 8) (omega arith) (omega arith) w k
+
+-- a header's flags, whatever the word size
+pub flags-idle : {w : ℕ} → Width w → (x c : ℕ) → x % (16 * w) ≡ 4 * c + 1 → x % 4 ≡ 1
+flags-idle {w} k x c = widths (λ w. x % (16 * w) ≡ 4 * c + 1 → x % 4 ≡ 1) (omega arith) (omega arith) w k
 
 -- the longest heap
 pub most-bound : {w : ℕ} → Width w → shape w .most ≤ 131072 * w

@@ -160,3 +160,21 @@ module _ (S : Shape) where
       (b d : List ℕ) (r t : Outcome) → Initialises S b r → r .refusal ≡ 0 → Initialises S d t → t .refusal ≡ 0 → length b ≤ length d
       → (qs : List Call) (rs ts : List Answer) → Run (r .heap) qs rs → Run (t .heap) qs ts
       → ((a : ℕ) → record { refusal = noRoom; address = a } ∈ rs → ⊥) → rs ≡ ts
+
+  -- THE PROMISES: every demand of document 01 of heaps of this shape
+  pub record Promised : Type 0 where
+    pub determined : Determined
+    pub reading-determined : ReadingDetermined
+    pub refused-untouched : RefusedUntouched
+    pub accepts-exactly : AcceptsExactly
+    pub one-layout : OneLayout
+    pub stays-sound : StaysSound
+    pub opens-sound : OpensSound
+    pub no-overlap : NoOverlap
+    pub in-area : InArea
+    pub no-word-inside : NoWordInside
+    pub allocate-keeps : AllocateKeeps
+    pub free-keeps : FreeKeeps
+    pub resize-keeps : ResizeKeeps
+    pub no-room-exactly : NoRoomExactly
+    pub longer-agrees : LongerAgrees

@@ -8,7 +8,8 @@ use native.Mathlib.Omega.{arith}
 use native.Mathlib.Decide.{decLe}
 use lib.ListN.{length}
 use borrow.Author.Tests.{le-leb, lt-leb}
-use Rattle.model.specs.Shape.{wide, endOf}
+use Rattle.words.specs.Width.{Width}
+use Rattle.model.specs.Shape.{shape, endOf}
 use Rattle.model.specs.Layout.{Layout}
 use Rattle.model.specs.Sound.{Here}
 use Rattle.model.specs.Rules.{Made, allocate}
@@ -17,53 +18,53 @@ use Rattle.model.specs.Refusals.{badSize, noRoom}
 use Rattle.model.specs.Calls.{Outcome, refused, granted, drawn, sized, allocated}
 use Rattle.model.specs.Promises.{Comes, Kept, OnlyNew, AllocateKeeps}
 use Rattle.model.proofs.Good.{shape-good}
-use Rattle.model.proofs.Sizes.{eight}
 use Rattle.model.proofs.lives.Payloads.{content-kept}
 use Rattle.model.proofs.rules.Allocation.{Granted, allocate-grants}
 use Rattle.sound.proofs.OneLayout.{one-layout}
 use Rattle.promises.proofs.Answers.{draws}
 
--- what a granted allocation made
-pub record MadeOf (b : List ℕ) (n : ℕ) (L : Layout) (r : Outcome) : Type 0 where
-  pub some-byte : 1 ≤ n
-  pub made : Made
-  pub found : allocate wide n L ≡ some made
-  pub is : r ≡ granted (made .at) (drawn wide (made .layout) b)
+module _ {w : ℕ} (wd : Width w) where
+  -- what a granted allocation made
+  pub record MadeOf (b : List ℕ) (n : ℕ) (L : Layout) (r : Outcome) : Type 0 where
+    pub some-byte : 1 ≤ n
+    pub made : Made
+    pub found : allocate (shape w) n L ≡ some made
+    pub is : r ≡ granted (made .at) (drawn (shape w) (made .layout) b)
 
-pub made-of : (b : List ℕ) (n : ℕ) (L : Layout) (r : Outcome) → r ≡ sized wide n b (allocated wide b n L) → r .refusal ≡ 0 → MadeOf b n L r
-made-of b n L r e g = go (decLe 1 n) (decLe n 1048576) (allocate wide n L) refl
-  where
-    go : Dec (1 ≤ n) → Dec (n ≤ 1048576) → (o : Option Made) → allocate wide n L ≡ o → MadeOf b n L r
-    go (no i) j o k =
-        let f : r ≡ refused b badSize = rw (lt-leb 1 n (omega arith)) at e in
-        absurd (omega (arith, g, ap (λ (x : Outcome). x .refusal) f))
-    go (yes i) (no j) o k =
-        let f : r ≡ refused b badSize = rw (le-leb 1 n i, lt-leb n 1048576 (omega arith)) at e in
-        absurd (omega (arith, g, ap (λ (x : Outcome). x .refusal) f))
-    go (yes i) (yes j) none k =
-        let f : r ≡ refused b noRoom = rw (le-leb 1 n i, le-leb n 1048576 j, k) at e in
-        absurd (omega (arith, g, ap (λ (x : Outcome). x .refusal) f))
-    go (yes i) (yes j) (some m) k = record { some-byte = i; made = m; found = k; is = rw (le-leb 1 n i, le-leb n 1048576 j, k) at e }
+  pub made-of : (b : List ℕ) (n : ℕ) (L : Layout) (r : Outcome) → r ≡ sized (shape w) n b (allocated (shape w) b n L) → r .refusal ≡ 0 → MadeOf b n L r
+  made-of b n L r e g = go (decLe 1 n) (decLe n (shape w .most)) (allocate (shape w) n L) refl
+    where
+      go : Dec (1 ≤ n) → Dec (n ≤ (shape w .most)) → (o : Option Made) → allocate (shape w) n L ≡ o → MadeOf b n L r
+      go (no i) j o k =
+          let f : r ≡ refused b badSize = rw (lt-leb 1 n (omega arith)) at e in
+          absurd (omega (arith, g, ap (λ (x : Outcome). x .refusal) f))
+      go (yes i) (no j) o k =
+          let f : r ≡ refused b badSize = rw (le-leb 1 n i, lt-leb n (shape w .most) (omega arith)) at e in
+          absurd (omega (arith, g, ap (λ (x : Outcome). x .refusal) f))
+      go (yes i) (yes j) none k =
+          let f : r ≡ refused b noRoom = rw (le-leb 1 n i, le-leb n (shape w .most) j, k) at e in
+          absurd (omega (arith, g, ap (λ (x : Outcome). x .refusal) f))
+      go (yes i) (yes j) (some m) k = record { some-byte = i; made = m; found = k; is = rw (le-leb 1 n i, le-leb n (shape w .most) j, k) at e }
 
--- what is promised of an outcome and the layout then
-abbrev AllocateKept : List ℕ → ℕ → Layout → Outcome → Layout → Type 0
-AllocateKept b n L r M =
-    ((x : Payload) → x ∈ live wide L → Kept wide b (r .heap) M x × (x .address ≡ r .address → ⊥))
-    × OnlyNew wide L M (r .address)
-    × ((x : Payload) × (x ∈ live wide M) × (x .address ≡ r .address) × (n ≤ x .size))
+  -- what is promised of an outcome and the layout then
+  abbrev AllocateKept : List ℕ → ℕ → Layout → Outcome → Layout → Type 0
+  AllocateKept b n L r M =
+      ((x : Payload) → x ∈ live (shape w) L → Kept (shape w) b (r .heap) M x × (x .address ≡ r .address → ⊥))
+      × OnlyNew (shape w) L M (r .address)
+      × ((x : Payload) × (x ∈ live (shape w) M) × (x .address ≡ r .address) × (n ≤ x .size))
 
-granted-kept : (b : List ℕ) (n : ℕ) (L : Layout) (m : Made) → Granted wide (endOf (length b)) n L m → AllocateKept b n L (granted (m .at) (drawn wide (m .layout) b)) (m .layout)
-granted-kept b n L m k = (
-  (λ x h. ((k .adds .kept x h, content-kept wide (endOf (length b)) (m .layout) b (k .valid) x (k .adds .kept x h)), λ e. k .adds .new x h (e ∙ sym (k .at)))),
-  (λ x h. ⊎-elim (λ i. inl i) (λ e. inr (ap (λ (y : Payload). y .address) e ∙ k .at)) (k .adds .only x h)),
-  (k .payload, k .adds .there, k .at, k .large),
-)
+  granted-kept : (b : List ℕ) (n : ℕ) (L : Layout) (m : Made) → Granted (shape w) (endOf (length b)) n L m → AllocateKept b n L (granted (m .at) (drawn (shape w) (m .layout) b)) (m .layout)
+  granted-kept b n L m k = (
+    (λ x h. ((k .adds .kept x h, content-kept (shape w) (endOf (length b)) (m .layout) b (k .valid) x (k .adds .kept x h)), λ e. k .adds .new x h (e ∙ sym (k .at)))),
+    (λ x h. ⊎-elim (λ i. inl i) (λ e. inr (ap (λ (y : Payload). y .address) e ∙ k .at)) (k .adds .only x h)),
+    (k .payload, k .adds .there, k .at, k .large),
+  )
 
-pub allocate-keeps : AllocateKeeps wide
-unfolding Comes
-allocate-keeps b n r L M g =
-    let a = made-of b n L r (g .comes .sound (g .lent) L (g .here)) (g .granted) in
-    let k = allocate-grants wide (endOf (length b)) n (shape-good eight) L (a .made) (g .here .valid) (a .some-byte) (a .found) in
-    let h : Here wide (r .heap) (a .made .layout) = subst (λ (o : Outcome). Here wide (o .heap) (a .made .layout)) (sym (a .is)) (draws b L (g .lent) (g .here) (a .made .layout) (k .valid)) in
-    subst (λ (N : Layout). AllocateKept b n L r N) (one-layout eight (r .heap) (a .made .layout) M h (g .then))
-    (subst (λ (o : Outcome). AllocateKept b n L o (a .made .layout)) (sym (a .is)) (granted-kept b n L (a .made) k))
+  pub allocate-keeps : AllocateKeeps (shape w)
+  unfolding Comes
+  allocate-keeps b n r L M g =
+      let a = made-of b n L r (g .comes .sound (g .lent) L (g .here)) (g .granted) in
+      let k = allocate-grants (shape w) (endOf (length b)) n (shape-good wd) L (a .made) (g .here .valid) (a .some-byte) (a .found) in
+      let h : Here (shape w) (r .heap) (a .made .layout) = subst (λ (o : Outcome). Here (shape w) (o .heap) (a .made .layout)) (sym (a .is)) (draws wd b L (g .lent) (g .here) (a .made .layout) (k .valid)) in
+      subst (λ (N : Layout). AllocateKept b n L r N) (one-layout wd (r .heap) (a .made .layout) M h (g .then))
+      (subst (λ (o : Outcome). AllocateKept b n L o (a .made .layout)) (sym (a .is)) (granted-kept b n L (a .made) k))

@@ -7,8 +7,9 @@ use native.Mathlib.Omega.{arith}
 use native.Mathlib.Decide.{decLe}
 use lib.ListN.{length}
 use borrow.Author.Tests.{le-leb, lt-leb}
+use Rattle.words.specs.Width.{Width}
 use Rattle.words.proofs.WordLaws.{Bytes}
-use Rattle.model.specs.Shape.{wide, endOf}
+use Rattle.model.specs.Shape.{shape, endOf}
 use Rattle.model.specs.Layout.{Layout, words}
 use Rattle.model.specs.Sound.{Valid, Here}
 use Rattle.model.specs.Rules.{Made, Found, block, thing, nothing, allocate, find, freed}
@@ -16,7 +17,6 @@ use Rattle.model.specs.Refusals.{notLive}
 use Rattle.model.specs.Calls.{Outcome, refused, granted, Lent, drawn, sized, found, allocated, without}
 use Rattle.model.specs.Promises.{Call, initialising, checking, allocating, freeing, resizing, Comes, Plain}
 use Rattle.model.proofs.Good.{shape-good}
-use Rattle.model.proofs.Sizes.{eight}
 use Rattle.model.proofs.pictures.Pictures as pictures
 use Rattle.model.proofs.pictures.Pictures.{length-draw, bytes-draw}
 use Rattle.model.proofs.pictures.Drawn.{drawn-here}
@@ -25,69 +25,70 @@ use Rattle.model.proofs.lives.FreeLives.{freed-removes}
 use Rattle.model.proofs.rules.Allocation.{allocate-grants}
 use Rattle.model.proofs.rules.OnLayouts.{Done, doing}
 
--- an outcome is what was done on the layout; where that stays, so does every byte
-pub record Does (b : List ℕ) (L : Layout) (r : Outcome) (d : Done) : Type 0 where
-  pub refusal : r .refusal ≡ d .refusal
-  pub address : r .address ≡ d .address
-  pub same : length (r .heap) ≡ length b
-  pub here : Here wide (r .heap) (d .layout)
-  pub bytes : Bytes b → Bytes (r .heap)
-  pub still : d .layout ≡ L → Bytes b → r .heap ≡ b
+module _ {w : ℕ} (wd : Width w) where
+  -- an outcome is what was done on the layout; where that stays, so does every byte
+  pub record Does (b : List ℕ) (L : Layout) (r : Outcome) (d : Done) : Type 0 where
+    pub refusal : r .refusal ≡ d .refusal
+    pub address : r .address ≡ d .address
+    pub same : length (r .heap) ≡ length b
+    pub here : Here (shape w) (r .heap) (d .layout)
+    pub bytes : Bytes b → Bytes (r .heap)
+    pub still : d .layout ≡ L → Bytes b → r .heap ≡ b
 
-module _ (b : List ℕ) (L : Layout) (l : Lent wide b) (h : Here wide b L) where
-  -- a valid layout drawn is the heap's
-  pub draws : (M : Layout) → Valid wide (endOf (length b)) M → Here wide (drawn wide M b) M
-  draws M v = drawn-here wide (shape-good eight) b M (h .magic) v (omega (arith, l .1))
+  module _ (b : List ℕ) (L : Layout) (l : Lent (shape w) b) (h : Here (shape w) b L) where
+    -- a valid layout drawn is the heap's
+    pub draws : (M : Layout) → Valid (shape w) (endOf (length b)) M → Here (shape w) (drawn (shape w) M b) M
+    draws M v = drawn-here (shape w) (shape-good wd) b M (h .magic) v (omega (arith, l .1))
 
-  pub drawn-length : (M : Layout) → length (drawn wide M b) ≡ length b
-  drawn-length M = length-draw 8 (words wide (endOf (length b)) M) b
+    pub drawn-length : (M : Layout) → length (drawn (shape w) M b) ≡ length b
+    drawn-length M = length-draw w (words (shape w) (endOf (length b)) M) b
 
-  pub drawn-bytes : (M : Layout) → Bytes b → Bytes (drawn wide M b)
-  drawn-bytes M = bytes-draw 8 (words wide (endOf (length b)) M) b
+    pub drawn-bytes : (M : Layout) → Bytes b → Bytes (drawn (shape w) M b)
+    drawn-bytes M = bytes-draw w (words (shape w) (endOf (length b)) M) b
 
-  -- the heap's own layout drawn changes nothing
-  pub redrawn : (M : Layout) → M ≡ L → Bytes b → drawn wide M b ≡ b
-  redrawn M e k = ap (λ (N : Layout). drawn wide N b) e ∙ sym (pictures.drawn 8 (words wide (endOf (length b)) L) b b k refl (h .shown) (λ i l o. refl))
+    -- the heap's own layout drawn changes nothing
+    pub redrawn : (M : Layout) → M ≡ L → Bytes b → drawn (shape w) M b ≡ b
+    redrawn M e k = ap (λ (N : Layout). drawn (shape w) N b) e ∙ sym (pictures.drawn w (words (shape w) (endOf (length b)) L) b b k refl (h .shown) (λ i l o. refl))
 
-  -- what is done where nothing is written, and where a valid layout is drawn
-  pub left : (k a : ℕ) → Does b L (record { refusal = k; address = a; heap = b }) (record { refusal = k; address = a; layout = L })
-  left k a = record { refusal = refl; address = refl; same = refl; here = h; bytes = λ x. x; still = λ e x. refl }
+    -- what is done where nothing is written, and where a valid layout is drawn
+    pub left : (k a : ℕ) → Does b L (record { refusal = k; address = a; heap = b }) (record { refusal = k; address = a; layout = L })
+    left k a = record { refusal = refl; address = refl; same = refl; here = h; bytes = λ x. x; still = λ e x. refl }
 
-  pub drew : (a : ℕ) (M : Layout) → Valid wide (endOf (length b)) M → Does b L (granted a (drawn wide M b)) (record { refusal = 0; address = a; layout = M })
-  drew a M v = record { refusal = refl; address = refl; same = drawn-length M; here = draws M v; bytes = drawn-bytes M; still = redrawn M }
+    pub drew : (a : ℕ) (M : Layout) → Valid (shape w) (endOf (length b)) M → Does b L (granted a (drawn (shape w) M b)) (record { refusal = 0; address = a; layout = M })
+    drew a M v = record { refusal = refl; address = refl; same = drawn-length M; here = draws M v; bytes = drawn-bytes M; still = redrawn M }
 
-  allocating-does : (n : ℕ) → Does b L (sized wide n b (allocated wide b n L)) (doing wide (allocating n) L)
-  unfolding doing
-  allocating-does n = go (decLe 1 n) (decLe n 1048576) (allocate wide n L) refl
-    where
-      go : Dec (1 ≤ n) → Dec (n ≤ 1048576) → (o : Option Made) → allocate wide n L ≡ o → Does b L (sized wide n b (allocated wide b n L)) (doing wide (allocating n) L)
-      go (no i) j o e = rw (lt-leb 1 n (omega arith)) (left _ _)
-      go (yes i) (no j) o e = rw (le-leb 1 n i, lt-leb n 1048576 (omega arith)) (left _ _)
-      go (yes i) (yes j) none e = rw (le-leb 1 n i, le-leb n 1048576 j, e) (left _ _)
-      go (yes i) (yes j) (some m) e =
-          let g = allocate-grants wide (endOf (length b)) n (shape-good eight) L m (h .valid) i e in
-          rw (le-leb 1 n i, le-leb n 1048576 j, e) (drew _ (m .layout) (g .valid))
+    allocating-does : (n : ℕ) → Does b L (sized (shape w) n b (allocated (shape w) b n L)) (doing (shape w) (allocating n) L)
+    unfolding doing
+    allocating-does n = go (decLe 1 n) (decLe n (shape w .most)) (allocate (shape w) n L) refl
+      where
+        go : Dec (1 ≤ n) → Dec (n ≤ (shape w .most)) → (o : Option Made) → allocate (shape w) n L ≡ o → Does b L (sized (shape w) n b (allocated (shape w) b n L)) (doing (shape w) (allocating n) L)
+        go (no i) j o e = rw (lt-leb 1 n (omega arith)) (left _ _)
+        go (yes i) (no j) o e = rw (le-leb 1 n i, lt-leb n (shape w .most) (omega arith)) (left _ _)
+        go (yes i) (yes j) none e = rw (le-leb 1 n i, le-leb n (shape w .most) j, e) (left _ _)
+        go (yes i) (yes j) (some m) e =
+            let g = allocate-grants (shape w) (endOf (length b)) n (shape-good wd) L m (h .valid) i e in
+            rw (le-leb 1 n i, le-leb n (shape w .most) j, e) (drew _ (m .layout) (g .valid))
 
-  freed-valid : (a : ℕ) (f : Found) → find wide a L ≡ f → isThere f ≡ 1 → Valid wide (endOf (length b)) (freed wide f L)
-  freed-valid a f e i = freed-removes wide (shape-good eight) (h .valid) a f e (λ n. omega (arith, i, ap isThere n)) .valid
+    freed-valid : (a : ℕ) (f : Found) → find (shape w) a L ≡ f → isThere f ≡ 1 → Valid (shape w) (endOf (length b)) (freed (shape w) f L)
+    freed-valid a f e i = freed-removes (shape w) (shape-good wd) (h .valid) a f e (λ n. omega (arith, i, ap isThere n)) .valid
 
-  freeing-does : (a : ℕ) → Does b L (found wide (find wide a L) (refused b notLive) (granted 0 (drawn wide (without wide a L) b))) (doing wide (freeing a) L)
-  unfolding doing
-  freeing-does a = go (find wide a L) refl
-    where
-      go : (f : Found) → find wide a L ≡ f → Does b L (found wide (find wide a L) (refused b notLive) (granted 0 (drawn wide (without wide a L) b))) (doing wide (freeing a) L)
-      go nothing e = rw e (left _ _)
-      go (block t) e = rw e (drew _ (freed wide (block t) L) (freed-valid a (block t) e refl))
-      go (thing o c) e = rw e (drew _ (freed wide (thing o c) L) (freed-valid a (thing o c) e refl))
+    freeing-does : (a : ℕ) → Does b L (found (shape w) (find (shape w) a L) (refused b notLive) (granted 0 (drawn (shape w) (without (shape w) a L) b))) (doing (shape w) (freeing a) L)
+    unfolding doing
+    freeing-does a = go (find (shape w) a L) refl
+      where
+        go : (f : Found) → find (shape w) a L ≡ f → Does b L (found (shape w) (find (shape w) a L) (refused b notLive) (granted 0 (drawn (shape w) (without (shape w) a L) b))) (doing (shape w) (freeing a) L)
+        go nothing e = rw e (left _ _)
+        go (block t) e = rw e (drew _ (freed (shape w) (block t) L) (freed-valid a (block t) e refl))
+        go (thing o c) e = rw e (drew _ (freed (shape w) (thing o c) L) (freed-valid a (thing o c) e refl))
 
-  pub does-same : (r o : Outcome) (d : Done) → r ≡ o → Does b L o d → Does b L r d
-  does-same r o d e x = subst (λ (y : Outcome). Does b L y d) (sym e) x
+    pub does-same : (r o : Outcome) (d : Done) → r ≡ o → Does b L o d → Does b L r d
+    does-same r o d e x = subst (λ (y : Outcome). Does b L y d) (sym e) x
 
-  pub answers : (q : Call) → Plain wide q → (r : Outcome) → Comes wide b q r → Does b L r (doing wide q L)
-  unfolding Comes
-  answers initialising p r c = absurd p
-  answers checking p r c = absurd p
-  answers (allocating n) p r c = does-same r (sized wide n b (allocated wide b n L)) (doing wide (allocating n) L) (c .sound l L h) (allocating-does n)
-  answers (freeing a) p r c =
-      does-same r (found wide (find wide a L) (refused b notLive) (granted 0 (drawn wide (without wide a L) b))) (doing wide (freeing a) L) (c .sound l L h) (freeing-does a)
-  answers (resizing a n) p r c = absurd p
+    pub answers : (q : Call) → Plain (shape w) q → (r : Outcome) → Comes (shape w) b q r → Does b L r (doing (shape w) q L)
+    unfolding Comes
+    answers initialising p r c = absurd p
+    answers checking p r c = absurd p
+    answers (allocating n) p r c = does-same r (sized (shape w) n b (allocated (shape w) b n L)) (doing (shape w) (allocating n) L) (c .sound l L h) (allocating-does n)
+    answers (freeing a) p r c =
+        does-same r (found (shape w) (find (shape w) a L) (refused b notLive) (granted 0 (drawn (shape w) (without (shape w) a L) b))) (doing (shape w) (freeing a) L) (c .sound l L h) (freeing-does a)
+    answers (resizing a n) p r c = absurd p

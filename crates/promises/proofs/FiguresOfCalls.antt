@@ -1,4 +1,4 @@
--- Document 01's starred figures, of the calls themselves: one table, one statement.
+-- Document 01's starred figures, of the calls themselves: one table, one statement. At 8 bytes a word only, as the figures are.
 use Prim.Native.Nat.{ℕ, _≤_}
 use mathlib.Core.Path.{_≡_, refl, sym, ap, ap₂, subst, _∙_}
 use mathlib.Core.Bool.{Bool, true, false, cond, _&&_}
@@ -21,6 +21,7 @@ use Rattle.model.specs.Live.{_∈_}
 use Rattle.model.specs.Refusals.{badLength}
 use Rattle.model.specs.Calls.{Outcome, refused, Lent, Opened, Initialises}
 use Rattle.model.specs.Promises.{Call, initialising, checking, allocating, freeing, resizing, Comes, Answer}
+use Rattle.model.proofs.Sizes.{eight}
 use Rattle.model.proofs.rules.OnLayouts.{doing}
 use Rattle.promises.proofs.Opened.{opened-fresh}
 use Rattle.promises.proofs.Doing.{does}
@@ -236,7 +237,7 @@ runs [] b L [] l h o = record { answers = refl; same = refl; here = h }
 runs [] b L (r ∷ rs) l h o = absurd o
 runs (q ∷ qs) b L [] l h o = absurd o
 runs (q ∷ qs) b L (r ∷ rs) l h o =
-    let d = does b L l h q r (o .0) in
+    let d = does eight b L l h q r (o .0) in
     let t = runs qs (r .heap) (doing wide q L .layout) rs (omega (arith, d .same, l .0), omega (arith, d .same, l .1)) (d .here) (o .1) in
     record {
       answers = ap₂ (λ (x : ℕ) (y : ℕ). says x y ∷ answered rs) (d .refusal) (d .address) ∙ ap (λ (z : List (Answer wide)). says (doing wide q L .refusal) (doing wide q L .address) ∷ z) (t .answers);
@@ -279,7 +280,7 @@ module _ (b : List ℕ) (n : Opened wide b → ⊥) (qs : List Call) (r : Outcom
   unfolding answered answersFrom pictureFrom heapThen
   given-lent l e =
       let i = c .opens l n in
-      let g = opened-fresh b r c (ap (λ (x : Outcome). x .refusal) i) in
+      let g = opened-fresh eight b r c (ap (λ (x : Outcome). x .refusal) i) in
       let t = runs qs (r .heap) (opened (length b)) rs (omega (arith, g .same, l .0), omega (arith, g .same, l .1)) (g .here) o in
       rw e (
         ap₂ (λ (x : ℕ) (y : ℕ). says x y ∷ answered rs) (ap (λ (x : Outcome). x .refusal) i) (ap (λ (x : Outcome). x .address) i) ∙ ap (λ (z : List (Answer wide)). says 0 0 ∷ z) (t .answers),
@@ -299,11 +300,11 @@ still-runs : (q : Call) (qs : List Call) (b : List ℕ) (L : Layout) (rs : List 
     → layoutThen L (q ∷ qs) ≡ layoutBefore L (q ∷ qs) → Bytes b → heapThen b rs ≡ heapBefore b rs
 unfolding Outcomes heapThen heapBefore layoutThen layoutBefore
 still-runs q qs b L [] l h o e k = absurd o
-still-runs q [] b L (r ∷ []) l h o e k = does b L l h q r (o .0) .still e k
+still-runs q [] b L (r ∷ []) l h o e k = does eight b L l h q r (o .0) .still e k
 still-runs q [] b L (r ∷ t ∷ rs) l h o e k = absurd (o .1)
 still-runs q (p ∷ qs) b L (r ∷ []) l h o e k = absurd (o .1)
 still-runs q (p ∷ qs) b L (r ∷ t ∷ rs) l h o e k =
-    let d = does b L l h q r (o .0) in
+    let d = does eight b L l h q r (o .0) in
     still-runs p qs (r .heap) (doing wide q L .layout) (t ∷ rs) (omega (arith, d .same, l .0), omega (arith, d .same, l .1)) (d .here) (o .1) e (d .bytes k)
 
 -- there is a last layout only of a good length
@@ -324,7 +325,7 @@ still-from b n [] r rs c o e k = absurd (Option·none-ne-some (layoutBefore (ope
 still-from b n (q ∷ qs) r [] c o e k = absurd o
 still-from b n (q ∷ qs) r (t ∷ rs) c o e k =
     let m = last-lent (length b) (q ∷ qs) (layoutBefore (opened (length b)) (q ∷ qs)) e in
-    let g = opened-fresh b r c (ap (λ (x : Outcome). x .refusal) (c .opens (m .0, m .1) n)) in
+    let g = opened-fresh eight b r c (ap (λ (x : Outcome). x .refusal) (c .opens (m .0, m .1) n)) in
     still-runs q qs (r .heap) (opened (length b)) (t ∷ rs) (omega (arith, g .same, m .0), omega (arith, g .same, m .1)) (g .here) o
     (Option·some-injective (layoutThen (opened (length b)) (q ∷ qs)) (layoutBefore (opened (length b)) (q ∷ qs)) (m .2)) (g .bytes k)
 

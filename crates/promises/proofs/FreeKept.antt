@@ -5,7 +5,8 @@ use mathlib.Core.List.{List}
 use mathlib.Core.Logic.{⊎-elim}
 use native.Mathlib.Omega.{arith}
 use lib.ListN.{length}
-use Rattle.model.specs.Shape.{wide, endOf}
+use Rattle.words.specs.Width.{Width}
+use Rattle.model.specs.Shape.{shape, endOf}
 use Rattle.model.specs.Layout.{Layout}
 use Rattle.model.specs.Sound.{Here}
 use Rattle.model.specs.Rules.{Found, block, thing, nothing, find, freed}
@@ -14,43 +15,43 @@ use Rattle.model.specs.Refusals.{notLive}
 use Rattle.model.specs.Calls.{Outcome, refused, granted, drawn, found, without}
 use Rattle.model.specs.Promises.{Comes, Kept, FreeKeeps}
 use Rattle.model.proofs.Good.{shape-good}
-use Rattle.model.proofs.Sizes.{eight}
 use Rattle.model.proofs.lives.Payloads.{content-kept}
 use Rattle.sound.proofs.OneLayout.{one-layout}
 use Rattle.promises.proofs.Answers.{draws}
 use Rattle.model.proofs.lives.LiveFound.{isThere}
 use Rattle.model.proofs.lives.FreeLives.{Removed, freed-removes}
 
-module _ (b : List ℕ) (a : ℕ) (L : Layout) where
-  -- what is promised of an outcome and the layout then
-  abbrev FreeKept : Outcome → Layout → Type 0
-  FreeKept r M =
-      ((x : Payload) → x ∈ live wide L → (x .address ≡ a → ⊥) → Kept wide b (r .heap) M x)
-      × ((x : Payload) → x ∈ live wide M → (x ∈ live wide L) × (x .address ≡ a → ⊥))
+module _ {w : ℕ} (wd : Width w) where
+  module _ (b : List ℕ) (a : ℕ) (L : Layout) where
+    -- what is promised of an outcome and the layout then
+    abbrev FreeKept : Outcome → Layout → Type 0
+    FreeKept r M =
+        ((x : Payload) → x ∈ live (shape w) L → (x .address ≡ a → ⊥) → Kept (shape w) b (r .heap) M x)
+        × ((x : Payload) → x ∈ live (shape w) M → (x ∈ live (shape w) L) × (x .address ≡ a → ⊥))
 
-  removed-kept : (f : Found) → Removed wide (endOf (length b)) L a f → FreeKept (granted 0 (drawn wide (freed wide f L) b)) (freed wide f L)
-  removed-kept f k = (
-    (λ x h n.
-        let i : x ∈ live wide (freed wide f L) = ⊎-elim (λ j. j) (λ e. absurd (n (ap (λ (y : Payload). y .address) e ∙ k .at))) (k .adds .only x h) in
-        (i, content-kept wide (endOf (length b)) (freed wide f L) b (k .valid) x i)),
-    (λ x h. (k .adds .kept x h, λ e. k .adds .new x h (e ∙ sym (k .at)))),
-  )
+    removed-kept : (f : Found) → Removed (shape w) (endOf (length b)) L a f → FreeKept (granted 0 (drawn (shape w) (freed (shape w) f L) b)) (freed (shape w) f L)
+    removed-kept f k = (
+      (λ x h n.
+          let i : x ∈ live (shape w) (freed (shape w) f L) = ⊎-elim (λ j. j) (λ e. absurd (n (ap (λ (y : Payload). y .address) e ∙ k .at))) (k .adds .only x h) in
+          (i, content-kept (shape w) (endOf (length b)) (freed (shape w) f L) b (k .valid) x i)),
+      (λ x h. (k .adds .kept x h, λ e. k .adds .new x h (e ∙ sym (k .at)))),
+    )
 
-pub free-keeps : FreeKeeps wide
-unfolding Comes
-free-keeps b a r L M g = go (find wide a L) refl
-  where
-    is : r ≡ found wide (find wide a L) (refused b notLive) (granted 0 (drawn wide (without wide a L) b))
-    is = g .comes .sound (g .lent) L (g .here)
+  pub free-keeps : FreeKeeps (shape w)
+  unfolding Comes
+  free-keeps b a r L M g = go (find (shape w) a L) refl
+    where
+      is : r ≡ found (shape w) (find (shape w) a L) (refused b notLive) (granted 0 (drawn (shape w) (without (shape w) a L) b))
+      is = g .comes .sound (g .lent) L (g .here)
 
-    freed-kept : (f : Found) → find wide a L ≡ f → (f ≡ nothing → ⊥) → r ≡ granted 0 (drawn wide (freed wide f L) b) → FreeKept b a L r M
-    freed-kept f e n s =
-        let k = freed-removes wide (shape-good eight) (g .here .valid) a f e n in
-        let h : Here wide (r .heap) (freed wide f L) = subst (λ (o : Outcome). Here wide (o .heap) (freed wide f L)) (sym s) (draws b L (g .lent) (g .here) (freed wide f L) (k .valid)) in
-        subst (λ (N : Layout). FreeKept b a L r N) (one-layout eight (r .heap) (freed wide f L) M h (g .then))
-        (subst (λ (o : Outcome). FreeKept b a L o (freed wide f L)) (sym s) (removed-kept b a L f k))
+      freed-kept : (f : Found) → find (shape w) a L ≡ f → (f ≡ nothing → ⊥) → r ≡ granted 0 (drawn (shape w) (freed (shape w) f L) b) → FreeKept b a L r M
+      freed-kept f e n s =
+          let k = freed-removes (shape w) (shape-good wd) (g .here .valid) a f e n in
+          let h : Here (shape w) (r .heap) (freed (shape w) f L) = subst (λ (o : Outcome). Here (shape w) (o .heap) (freed (shape w) f L)) (sym s) (draws wd b L (g .lent) (g .here) (freed (shape w) f L) (k .valid)) in
+          subst (λ (N : Layout). FreeKept b a L r N) (one-layout wd (r .heap) (freed (shape w) f L) M h (g .then))
+          (subst (λ (o : Outcome). FreeKept b a L o (freed (shape w) f L)) (sym s) (removed-kept b a L f k))
 
-    go : (f : Found) → find wide a L ≡ f → FreeKept b a L r M
-    go nothing e = absurd (omega (arith, g .granted, ap (λ (o : Outcome). o .refusal) is, ap (λ (f : Found). found wide f (refused b notLive) (granted 0 (drawn wide (without wide a L) b)) .refusal) e))
-    go (block t) e = freed-kept (block t) e (λ k. omega (arith, ap isThere k)) (rw e at is)
-    go (thing o c) e = freed-kept (thing o c) e (λ k. omega (arith, ap isThere k)) (rw e at is)
+      go : (f : Found) → find (shape w) a L ≡ f → FreeKept b a L r M
+      go nothing e = absurd (omega (arith, g .granted, ap (λ (o : Outcome). o .refusal) is, ap (λ (f : Found). found (shape w) f (refused b notLive) (granted 0 (drawn (shape w) (without (shape w) a L) b)) .refusal) e))
+      go (block t) e = freed-kept (block t) e (λ k. omega (arith, ap isThere k)) (rw e at is)
+      go (thing o c) e = freed-kept (thing o c) e (λ k. omega (arith, ap isThere k)) (rw e at is)

@@ -15,4 +15,5 @@ pub mod StaysSound
 pub mod NoRoomExact
 pub mod Longer
 pub mod Doing
+pub mod Promised
 pub mod FiguresOfCalls

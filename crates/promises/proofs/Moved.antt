@@ -7,10 +7,11 @@ use mathlib.Core.Option.{some}
 use native.Mathlib.Omega.{arith}
 use lib.ListN.{length, getD, take, drop}
 use native.Mathlib.Decide.{decLe, decLt}
+use Rattle.words.specs.Width.{Width}
 use Rattle.words.specs.Copy.{copied}
 use Rattle.words.proofs.WordLaws.{Bytes}
 use Rattle.words.proofs.CopyLaws.{part-agree, length-copied, copied-in, copied-out}
-use Rattle.model.specs.Shape.{wide, endOf}
+use Rattle.model.specs.Shape.{shape, endOf}
 use Rattle.model.specs.Layout.{Layout}
 use Rattle.model.specs.Sound.{Here}
 use Rattle.model.specs.Rules.{Made, Found, nothing, allocate, find, capacity}
@@ -18,7 +19,6 @@ use Rattle.model.specs.Live.{_∈_, Payload, content, live}
 use Rattle.model.specs.Calls.{Outcome, granted, Lent, drawn, without}
 use Rattle.model.specs.Promises.{Kept, OnlyNew}
 use Rattle.model.proofs.Good.{shape-good}
-use Rattle.model.proofs.Sizes.{eight}
 use Rattle.model.proofs.lives.Payloads.{in-area, content-kept}
 use Rattle.model.proofs.rules.Allocation.{Granted, allocate-grants}
 use Rattle.model.proofs.pictures.Written.{kept-here}
@@ -27,144 +27,145 @@ use Rattle.model.proofs.lives.LiveFound.{isThere, live-found, live-apart}
 use Rattle.model.proofs.lives.FreeLives.{Removed, freed-removes}
 use Rattle.promises.proofs.Parts.{take-take, part-moved}
 
--- what is promised of a resize, of an outcome and the layout then
-abbrev pub ResizeKept : List ℕ → ℕ → ℕ → Layout → Outcome → Layout → Type 0
-ResizeKept b a n L r M =
-    ((x : Payload) → x ∈ live wide L → (x .address ≡ a → ⊥) → Kept wide b (r .heap) M x)
-    × OnlyNew wide L M (r .address)
-    × ((x : Payload) → x ∈ live wide L → x .address ≡ a
-    → ((y : Payload) × (y ∈ live wide M) × (y .address ≡ r .address) × (n ≤ y .size)
-    × (take (min (x .size) n) (content (r .heap) y) ≡ take (min (x .size) n) (content b x))))
+module _ {w : ℕ} (wd : Width w) where
+  -- what is promised of a resize, of an outcome and the layout then
+  abbrev pub ResizeKept : List ℕ → ℕ → ℕ → Layout → Outcome → Layout → Type 0
+  ResizeKept b a n L r M =
+      ((x : Payload) → x ∈ live (shape w) L → (x .address ≡ a → ⊥) → Kept (shape w) b (r .heap) M x)
+      × OnlyNew (shape w) L M (r .address)
+      × ((x : Payload) → x ∈ live (shape w) L → x .address ≡ a
+      → ((y : Payload) × (y ∈ live (shape w) M) × (y .address ≡ r .address) × (n ≤ y .size)
+      × (take (min (x .size) n) (content (r .heap) y) ≡ take (min (x .size) n) (content b x))))
 
-pub is-there : (f : Found) → isThere f ≡ 1 → f ≡ nothing → ⊥
-is-there f e n = omega (arith, e, ap isThere n)
+  pub is-there : (f : Found) → isThere f ≡ 1 → f ≡ nothing → ⊥
+  is-there f e n = omega (arith, e, ap isThere n)
 
-min-left : (m n : ℕ) → min m n ≤ m
-min-left m n = omega arith
+  min-left : (m n : ℕ) → min m n ≤ m
+  min-left m n = omega arith
 
-min-right : (m n : ℕ) → min m n ≤ n
-min-right m n = omega arith
+  min-right : (m n : ℕ) → min m n ≤ n
+  min-right m n = omega arith
 
--- the old payload is the one that was found
-found-size : (end : ℕ) (L : Layout) (a : ℕ) (f : Found) → Removed wide end L a f → (x : Payload) → x ∈ live wide L → x .address ≡ a → x .size ≡ capacity wide f
-found-size end L a f r x h e =
-    ⊎-elim (λ i. absurd (r .adds .new x i (e ∙ sym (r .at)))) (λ i. ap (λ (y : Payload). y .size) i ∙ r .size) (r .adds .only x h)
+  -- the old payload is the one that was found
+  found-size : (end : ℕ) (L : Layout) (a : ℕ) (f : Found) → Removed (shape w) end L a f → (x : Payload) → x ∈ live (shape w) L → x .address ≡ a → x .size ≡ capacity (shape w) f
+  found-size end L a f r x h e =
+      ⊎-elim (λ i. absurd (r .adds .new x i (e ∙ sym (r .at)))) (λ i. ap (λ (y : Payload). y .size) i ∙ r .size) (r .adds .only x h)
 
-module _ (b : List ℕ) (L : Layout) (l : Lent wide b) (h : Here wide b L) (a n : ℕ) (one : 1 ≤ n) (m : Made) (fm : allocate wide n L ≡ some m) (live-there : isThere (find wide a L) ≡ 1) where
-  new : Granted wide (endOf (length b)) n L m
-  new = allocate-grants wide (endOf (length b)) n (shape-good eight) L m (h .valid) one fm
+  module _ (b : List ℕ) (L : Layout) (l : Lent (shape w) b) (h : Here (shape w) b L) (a n : ℕ) (one : 1 ≤ n) (m : Made) (fm : allocate (shape w) n L ≡ some m) (live-there : isThere (find (shape w) a L) ≡ 1) where
+    new : Granted (shape w) (endOf (length b)) n L m
+    new = allocate-grants (shape w) (endOf (length b)) n (shape-good wd) L m (h .valid) one fm
 
-  was : Removed wide (endOf (length b)) L a (find wide a L)
-  was = freed-removes wide (shape-good eight) (h .valid) a (find wide a L) refl (is-there (find wide a L) live-there)
+    was : Removed (shape w) (endOf (length b)) L a (find (shape w) a L)
+    was = freed-removes (shape w) (shape-good wd) (h .valid) a (find (shape w) a L) refl (is-there (find (shape w) a L) live-there)
 
-  -- the bytes with the new record, and with what it takes over
-  abbrev K : Layout
-  K = m .layout
+    -- the bytes with the new record, and with what it takes over
+    abbrev K : Layout
+    K = m .layout
 
-  abbrev grownBytes : List ℕ
-  grownBytes = drawn wide (m .layout) b
+    abbrev grownBytes : List ℕ
+    grownBytes = drawn (shape w) (m .layout) b
 
-  abbrev count : ℕ
-  count = min (capacity wide (find wide a L)) n
+    abbrev count : ℕ
+    count = min (capacity (shape w) (find (shape w) a L)) n
 
-  abbrev copiedBytes : List ℕ
-  copiedBytes = copied a (m .at) count grownBytes
+    abbrev copiedBytes : List ℕ
+    copiedBytes = copied a (m .at) count grownBytes
 
-  old-in : was .payload ∈ live wide K
-  old-in = new .adds .kept (was .payload) (was .adds .there)
+    old-in : was .payload ∈ live (shape w) K
+    old-in = new .adds .kept (was .payload) (was .adds .there)
 
-  old-area : a + count ≤ length grownBytes
-  old-area = omega (arith, in-area wide (endOf (length b)) K (new .valid) (was .payload) old-in .1, was .at, was .size, min-left (capacity wide (find wide a L)) n, drawn-length b L l h K)
+    old-area : a + count ≤ length grownBytes
+    old-area = omega (arith, in-area (shape w) (endOf (length b)) K (new .valid) (was .payload) old-in .1, was .at, was .size, min-left (capacity (shape w) (find (shape w) a L)) n, drawn-length wd b L l h K)
 
-  new-area : m .at + count ≤ length grownBytes
-  new-area = omega (arith, in-area wide (endOf (length b)) K (new .valid) (new .payload) (new .adds .there) .1, new .at, new .large, min-right (capacity wide (find wide a L)) n, drawn-length b L l h K)
+    new-area : m .at + count ≤ length grownBytes
+    new-area = omega (arith, in-area (shape w) (endOf (length b)) K (new .valid) (new .payload) (new .adds .there) .1, new .at, new .large, min-right (capacity (shape w) (find (shape w) a L)) n, drawn-length wd b L l h K)
 
-  copied-length : length copiedBytes ≡ length b
-  copied-length = length-copied grownBytes a (m .at) count old-area new-area ∙ drawn-length b L l h K
+    copied-length : length copiedBytes ≡ length b
+    copied-length = length-copied grownBytes a (m .at) count old-area new-area ∙ drawn-length wd b L l h K
 
-  -- only the new record's bytes are copied over
-  copied-apart : (i : ℕ) → (new .payload .address ≤ i → i < new .payload .address + new .payload .size → ⊥) → getD copiedBytes i 0 ≡ getD grownBytes i 0
-  copied-apart i o =
-      copied-out grownBytes a (m .at) count old-area new-area i (λ lo hi. o (omega (arith, new .at)) (omega (arith, new .at, new .large, min-right (capacity wide (find wide a L)) n)))
+    -- only the new record's bytes are copied over
+    copied-apart : (i : ℕ) → (new .payload .address ≤ i → i < new .payload .address + new .payload .size → ⊥) → getD copiedBytes i 0 ≡ getD grownBytes i 0
+    copied-apart i o =
+        copied-out grownBytes a (m .at) count old-area new-area i (λ lo hi. o (omega (arith, new .at)) (omega (arith, new .at, new .large, min-right (capacity (shape w) (find (shape w) a L)) n)))
 
-  copied-here : Here wide copiedBytes K
-  copied-here =
-      kept-here wide grownBytes copiedBytes K (draws b L l h K (new .valid)) (length-copied grownBytes a (m .at) count old-area new-area)
-      (λ i o. copied-apart i (λ lo hi. o (new .payload) (new .adds .there) lo hi))
+    copied-here : Here (shape w) copiedBytes K
+    copied-here =
+        kept-here (shape w) grownBytes copiedBytes K (draws wd b L l h K (new .valid)) (length-copied grownBytes a (m .at) count old-area new-area)
+        (λ i o. copied-apart i (λ lo hi. o (new .payload) (new .adds .there) lo hi))
 
-  copied-lent : Lent wide copiedBytes
-  copied-lent = (omega (arith, copied-length, l .0), omega (arith, copied-length, l .1))
+    copied-lent : Lent (shape w) copiedBytes
+    copied-lent = (omega (arith, copied-length, l .0), omega (arith, copied-length, l .1))
 
-  gone : Removed wide (endOf (length copiedBytes)) K a (find wide a K)
-  gone = freed-removes wide (shape-good eight) (copied-here .valid) a (find wide a K) refl (is-there (find wide a K) (live-found wide K a (was .payload) old-in (was .at)))
+    gone : Removed (shape w) (endOf (length copiedBytes)) K a (find (shape w) a K)
+    gone = freed-removes (shape w) (shape-good wd) (copied-here .valid) a (find (shape w) a K) refl (is-there (find (shape w) a K) (live-found (shape w) K a (was .payload) old-in (was .at)))
 
-  pub moved-here : Here wide (drawn wide (without wide a (m .layout)) copiedBytes) (without wide a (m .layout))
-  moved-here = draws copiedBytes K copied-lent copied-here (without wide a K) (gone .valid)
+    pub moved-here : Here (shape w) (drawn (shape w) (without (shape w) a (m .layout)) copiedBytes) (without (shape w) a (m .layout))
+    moved-here = draws wd copiedBytes K copied-lent copied-here (without (shape w) a K) (gone .valid)
 
-  moved-bytes : Bytes b → Bytes (drawn wide (without wide a (m .layout)) copiedBytes)
-  moved-bytes k = drawn-bytes copiedBytes K copied-lent copied-here (without wide a K) (λ i. at i (decLe (m .at) i) (decLt i (m .at + count)))
-    where
-      at : (i : ℕ) → Dec (m .at ≤ i) → Dec (i < m .at + count) → getD copiedBytes i 0 < 256
-      at i (yes x) (yes y) =
-          let e : m .at + (i - m .at) ≡ i = omega (arith, x) in
-          subst (λ (j : ℕ). getD copiedBytes j 0 < 256) e (rw (copied-in grownBytes a (m .at) count old-area new-area (i - m .at) (omega (arith, x, y))) (drawn-bytes b L l h K k (a + (i - m .at))))
-      at i (yes x) (no y) = rw (copied-out grownBytes a (m .at) count old-area new-area i (λ _ q. y q)) (drawn-bytes b L l h K k i)
-      at i (no x) d = rw (copied-out grownBytes a (m .at) count old-area new-area i (λ q _. x q)) (drawn-bytes b L l h K k i)
+    moved-bytes : Bytes b → Bytes (drawn (shape w) (without (shape w) a (m .layout)) copiedBytes)
+    moved-bytes k = drawn-bytes wd copiedBytes K copied-lent copied-here (without (shape w) a K) (λ i. at i (decLe (m .at) i) (decLt i (m .at + count)))
+      where
+        at : (i : ℕ) → Dec (m .at ≤ i) → Dec (i < m .at + count) → getD copiedBytes i 0 < 256
+        at i (yes x) (yes y) =
+            let e : m .at + (i - m .at) ≡ i = omega (arith, x) in
+            subst (λ (j : ℕ). getD copiedBytes j 0 < 256) e (rw (copied-in grownBytes a (m .at) count old-area new-area (i - m .at) (omega (arith, x, y))) (drawn-bytes wd b L l h K k (a + (i - m .at))))
+        at i (yes x) (no y) = rw (copied-out grownBytes a (m .at) count old-area new-area i (λ _ q. y q)) (drawn-bytes wd b L l h K k i)
+        at i (no x) d = rw (copied-out grownBytes a (m .at) count old-area new-area i (λ q _. x q)) (drawn-bytes wd b L l h K k i)
 
-  -- what is live elsewhere stays
-  still : (x : Payload) → x ∈ live wide K → (x .address ≡ a → ⊥) → x ∈ live wide (without wide a K)
-  still x k o = ⊎-elim (λ i. i) (λ e. absurd (o (ap (λ (y : Payload). y .address) e ∙ gone .at))) (gone .adds .only x k)
+    -- what is live elsewhere stays
+    still : (x : Payload) → x ∈ live (shape w) K → (x .address ≡ a → ⊥) → x ∈ live (shape w) (without (shape w) a K)
+    still x k o = ⊎-elim (λ i. i) (λ e. absurd (o (ap (λ (y : Payload). y .address) e ∙ gone .at))) (gone .adds .only x k)
 
-  others-kept : (x : Payload) → x ∈ live wide L → (x .address ≡ a → ⊥) → Kept wide b (drawn wide (without wide a K) copiedBytes) (without wide a K) x
-  others-kept x k o =
-      let i = new .adds .kept x k in
-      let j = still x i o in
-      let away = live-apart wide (endOf (length b)) K (new .valid) x (new .payload) i (new .adds .there) (new .adds .new x k) in (
-        j,
-        content-kept wide (endOf (length copiedBytes)) (without wide a K) copiedBytes (gone .valid) x j
-            ∙ part-agree copiedBytes grownBytes (x .address) (x .size) (length-copied grownBytes a (m .at) count old-area new-area)
-            (λ c lo hi. copied-apart c (λ lo′ hi′. ⊎-elim (λ q. omega (arith, q)) (λ q. omega (arith, q)) away))
-            ∙ content-kept wide (endOf (length b)) K b (new .valid) x i,
-      )
+    others-kept : (x : Payload) → x ∈ live (shape w) L → (x .address ≡ a → ⊥) → Kept (shape w) b (drawn (shape w) (without (shape w) a K) copiedBytes) (without (shape w) a K) x
+    others-kept x k o =
+        let i = new .adds .kept x k in
+        let j = still x i o in
+        let away = live-apart (shape w) (endOf (length b)) K (new .valid) x (new .payload) i (new .adds .there) (new .adds .new x k) in (
+          j,
+          content-kept (shape w) (endOf (length copiedBytes)) (without (shape w) a K) copiedBytes (gone .valid) x j
+              ∙ part-agree copiedBytes grownBytes (x .address) (x .size) (length-copied grownBytes a (m .at) count old-area new-area)
+              (λ c lo hi. copied-apart c (λ lo′ hi′. ⊎-elim (λ q. omega (arith, q)) (λ q. omega (arith, q)) away))
+              ∙ content-kept (shape w) (endOf (length b)) K b (new .valid) x i,
+        )
 
-  -- the new record is live, with the old one's beginning
-  new-still : new .payload ∈ live wide (without wide a K)
-  new-still = still (new .payload) (new .adds .there) (λ e. new .adds .new (was .payload) (was .adds .there) (was .at ∙ sym e))
+    -- the new record is live, with the old one's beginning
+    new-still : new .payload ∈ live (shape w) (without (shape w) a K)
+    new-still = still (new .payload) (new .adds .there) (λ e. new .adds .new (was .payload) (was .adds .there) (was .at ∙ sym e))
 
-  -- so the layout is another
-  moved-elsewhere : without wide a (m .layout) ≡ L → ⊥
-  moved-elsewhere e = new .adds .new (new .payload) (subst (λ (N : Layout). new .payload ∈ live wide N) e new-still) refl
+    -- so the layout is another
+    moved-elsewhere : without (shape w) a (m .layout) ≡ L → ⊥
+    moved-elsewhere e = new .adds .new (new .payload) (subst (λ (N : Layout). new .payload ∈ live (shape w) N) e new-still) refl
 
-  -- what is done
-  pub moved-does : Does b L (granted (m .at) (drawn wide (without wide a (m .layout)) copiedBytes)) (record { refusal = 0; address = m .at; layout = without wide a (m .layout) })
-  moved-does =
-      record {
-        refusal = refl;
-        address = refl;
-        same = drawn-length copiedBytes K copied-lent copied-here (without wide a K) ∙ copied-length;
-        here = moved-here;
-        bytes = moved-bytes;
-        still = λ e x. absurd (moved-elsewhere e);
-      }
+    -- what is done
+    pub moved-does : Does wd b L (granted (m .at) (drawn (shape w) (without (shape w) a (m .layout)) copiedBytes)) (record { refusal = 0; address = m .at; layout = without (shape w) a (m .layout) })
+    moved-does =
+        record {
+          refusal = refl;
+          address = refl;
+          same = drawn-length wd copiedBytes K copied-lent copied-here (without (shape w) a K) ∙ copied-length;
+          here = moved-here;
+          bytes = moved-bytes;
+          still = λ e x. absurd (moved-elsewhere e);
+        }
 
-  beginning : (x : Payload) → x ∈ live wide L → x .address ≡ a
-      → take (min (x .size) n) (content (drawn wide (without wide a K) copiedBytes) (new .payload)) ≡ take (min (x .size) n) (content b x)
-  beginning x k e =
-      let s : x .size ≡ capacity wide (find wide a L) = found-size (endOf (length b)) L a (find wide a L) was x k e in
-      let i = new .adds .kept x k in
-      let y = new .payload in
-      let low : min (x .size) n ≤ y .size = omega (arith, new .large, min-right (x .size) n) in
-      let here : take (min (x .size) n) (drop (y .address) copiedBytes) ≡ take (min (x .size) n) (drop (x .address) grownBytes) =
-      rw (s, e, new .at) (part-moved grownBytes copiedBytes a (m .at) count old-area (omega (arith, new-area, length-copied grownBytes a (m .at) count old-area new-area)) (λ q lt. copied-in grownBytes a (m .at) count old-area new-area q lt)) in
-      ap (λ (z : List ℕ). take (min (x .size) n) z) (content-kept wide (endOf (length copiedBytes)) (without wide a K) copiedBytes (gone .valid) (new .payload) new-still)
-      ∙ take-take (min (x .size) n) (y .size) (drop (y .address) copiedBytes) low
-      ∙ here
-      ∙ sym (take-take (min (x .size) n) (x .size) (drop (x .address) grownBytes) (min-left (x .size) n))
-      ∙ ap (λ (z : List ℕ). take (min (x .size) n) z) (content-kept wide (endOf (length b)) K b (new .valid) x i)
+    beginning : (x : Payload) → x ∈ live (shape w) L → x .address ≡ a
+        → take (min (x .size) n) (content (drawn (shape w) (without (shape w) a K) copiedBytes) (new .payload)) ≡ take (min (x .size) n) (content b x)
+    beginning x k e =
+        let s : x .size ≡ capacity (shape w) (find (shape w) a L) = found-size (endOf (length b)) L a (find (shape w) a L) was x k e in
+        let i = new .adds .kept x k in
+        let y = new .payload in
+        let low : min (x .size) n ≤ y .size = omega (arith, new .large, min-right (x .size) n) in
+        let here : take (min (x .size) n) (drop (y .address) copiedBytes) ≡ take (min (x .size) n) (drop (x .address) grownBytes) =
+        rw (s, e, new .at) (part-moved grownBytes copiedBytes a (m .at) count old-area (omega (arith, new-area, length-copied grownBytes a (m .at) count old-area new-area)) (λ q lt. copied-in grownBytes a (m .at) count old-area new-area q lt)) in
+        ap (λ (z : List ℕ). take (min (x .size) n) z) (content-kept (shape w) (endOf (length copiedBytes)) (without (shape w) a K) copiedBytes (gone .valid) (new .payload) new-still)
+        ∙ take-take (min (x .size) n) (y .size) (drop (y .address) copiedBytes) low
+        ∙ here
+        ∙ sym (take-take (min (x .size) n) (x .size) (drop (x .address) grownBytes) (min-left (x .size) n))
+        ∙ ap (λ (z : List ℕ). take (min (x .size) n) z) (content-kept (shape w) (endOf (length b)) K b (new .valid) x i)
 
-  pub moved-kept : ResizeKept b a n L (granted (m .at) (drawn wide (without wide a (m .layout)) copiedBytes)) (without wide a (m .layout))
-  moved-kept = (
-    others-kept,
-    (λ x k. ⊎-elim (λ i. inl i) (λ e. inr (ap (λ (y : Payload). y .address) e ∙ new .at)) (new .adds .only x (gone .adds .kept x k))),
-    (λ x k e. (new .payload, new-still, new .at, new .large, beginning x k e)),
-  )
+    pub moved-kept : ResizeKept b a n L (granted (m .at) (drawn (shape w) (without (shape w) a (m .layout)) copiedBytes)) (without (shape w) a (m .layout))
+    moved-kept = (
+      others-kept,
+      (λ x k. ⊎-elim (λ i. inl i) (λ e. inr (ap (λ (y : Payload). y .address) e ∙ new .at)) (new .adds .only x (gone .adds .kept x k))),
+      (λ x k e. (new .payload, new-still, new .at, new .large, beginning x k e)),
+    )

@@ -5,7 +5,8 @@ use mathlib.Core.List.{List}
 use native.Mathlib.Omega.{arith}
 use native.Mathlib.Decide.{ℕ-discrete, decLe}
 use lib.ListN.{length}
-use Rattle.model.specs.Shape.{wide}
+use Rattle.words.specs.Width.{Width}
+use Rattle.model.specs.Shape.{shape, shortest}
 use Rattle.model.specs.Layout.{Layout}
 use Rattle.model.specs.Sound.{Here, Sound}
 use Rattle.model.specs.Calls.{Outcome, refused, Lent, Checked}
@@ -16,27 +17,28 @@ use Rattle.promises.proofs.Opened.{opens-sound}
 use Rattle.promises.proofs.Answers.{answers}
 use Rattle.promises.proofs.ResizeKept.{resize-result}
 
--- a call is granted only of a buffer of a good length
-lent-of : (b : List ℕ) (rule : Layout → Outcome) (r : Outcome) → Checked wide b (refused b) rule r → r .refusal ≡ 0 → Lent wide b
-lent-of b rule r c g = go (decLe 344 (length b)) (decLe (length b) 1048576)
-  where
-    go : Dec (344 ≤ length b) → Dec (length b ≤ 1048576) → Lent wide b
-    go (yes x) (yes y) = (x, y)
-    go (no m) y = absurd (omega (arith, g, ap (λ (o : Outcome). o .refusal) (c .one (λ l. m (l .0)))))
-    go (yes x) (no m) = absurd (omega (arith, g, ap (λ (o : Outcome). o .refusal) (c .one (λ l. m (l .1)))))
+module _ {w : ℕ} (wd : Width w) where
+  -- a call is granted only of a buffer of a good length
+  lent-of : (b : List ℕ) (rule : Layout → Outcome) (r : Outcome) → Checked (shape w) b (refused b) rule r → r .refusal ≡ 0 → Lent (shape w) b
+  lent-of b rule r c g = go (decLe (shortest (shape w)) (length b)) (decLe (length b) (shape w .most))
+    where
+      go : Dec (shortest (shape w) ≤ length b) → Dec (length b ≤ (shape w .most)) → Lent (shape w) b
+      go (yes x) (yes y) = (x, y)
+      go (no m) y = absurd (omega (arith, g, ap (λ (o : Outcome). o .refusal) (c .one (λ l. m (l .0)))))
+      go (yes x) (no m) = absurd (omega (arith, g, ap (λ (o : Outcome). o .refusal) (c .one (λ l. m (l .1)))))
 
--- a granted call
-granted-sound : (b : List ℕ) (q : Call) (r : Outcome) → Comes wide b q r → r .refusal ≡ 0 → (L : Layout) → Here wide b L → Sound wide (r .heap)
-unfolding Comes
-granted-sound b initialising r c g L h = opens-sound b r c g
-granted-sound b checking r c g L h = record { layout = L; here = subst (λ (o : Outcome). Here wide (o .heap) L) (sym (c .sound (lent-of b _ r c g) L h)) h }
-granted-sound b (allocating n) r c g L h = record { layout = doing wide (allocating n) L .layout; here = answers b L (lent-of b _ r c g) h (allocating n) tt r c .here }
-granted-sound b (freeing a) r c g L h = record { layout = doing wide (freeing a) L .layout; here = answers b L (lent-of b _ r c g) h (freeing a) tt r c .here }
-granted-sound b (resizing a n) r c g L h = let k = resize-result b a n L r (lent-of b _ r c g) h g c in record { layout = k .layout; here = k .here }
+  -- a granted call
+  granted-sound : (b : List ℕ) (q : Call) (r : Outcome) → Comes (shape w) b q r → r .refusal ≡ 0 → (L : Layout) → Here (shape w) b L → Sound (shape w) (r .heap)
+  unfolding Comes
+  granted-sound b initialising r c g L h = opens-sound wd b r c g
+  granted-sound b checking r c g L h = record { layout = L; here = subst (λ (o : Outcome). Here (shape w) (o .heap) L) (sym (c .sound (lent-of b _ r c g) L h)) h }
+  granted-sound b (allocating n) r c g L h = record { layout = doing (shape w) (allocating n) L .layout; here = answers wd b L (lent-of b _ r c g) h (allocating n) tt r c .here }
+  granted-sound b (freeing a) r c g L h = record { layout = doing (shape w) (freeing a) L .layout; here = answers wd b L (lent-of b _ r c g) h (freeing a) tt r c .here }
+  granted-sound b (resizing a n) r c g L h = let k = resize-result wd b a n L r (lent-of b _ r c g) h g c in record { layout = k .layout; here = k .here }
 
-pub stays-sound : StaysSound wide
-stays-sound b q r c s = go (ℕ-discrete (r .refusal) 0)
-  where
-    go : Dec (r .refusal ≡ 0) → Sound wide (r .heap)
-    go (yes g) = granted-sound b q r c g (s .layout) (s .here)
-    go (no g) = subst (λ (o : Outcome). Sound wide (o .heap)) (sym (refused-untouched wide b q r c g)) s
+  pub stays-sound : StaysSound (shape w)
+  stays-sound b q r c s = go (ℕ-discrete (r .refusal) 0)
+    where
+      go : Dec (r .refusal ≡ 0) → Sound (shape w) (r .heap)
+      go (yes g) = granted-sound b q r c g (s .layout) (s .here)
+      go (no g) = subst (λ (o : Outcome). Sound (shape w) (o .heap)) (sym (refused-untouched (shape w) b q r c g)) s

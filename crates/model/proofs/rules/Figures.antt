@@ -1,4 +1,4 @@
--- Document 01's figures, computed from the definitions: one table, one statement.
+-- Document 01's figures, computed from the definitions: one table, one statement. At 8 bytes a word only, as the figures are.
 use Prim.Native.Nat.{ℕ, _+_}
 use mathlib.Core.Path.{_≡_, refl}
 use mathlib.Core.Bool.{cond}

@@ -1,0 +1,44 @@
+-- Every demand, proved once over the word size: so of document 01's heap, and of the hand unit's.
+use Prim.Native.Nat.{ℕ}
+use Rattle.words.specs.Width.{Width}
+use Rattle.model.specs.Shape.{shape, wide, hand}
+use Rattle.model.specs.Promises.{Promised}
+use Rattle.model.proofs.Sizes.{eight, four}
+use Rattle.model.proofs.lives.Payloads.{in-area, no-overlap, no-word-inside}
+use Rattle.sound.proofs.OneLayout.{one-layout}
+use Rattle.promises.proofs.Determined.{determined, reading-determined}
+use Rattle.promises.proofs.Refused.{refused-untouched}
+use Rattle.promises.proofs.Accepts.{accepts-exactly}
+use Rattle.promises.proofs.StaysSound.{stays-sound}
+use Rattle.promises.proofs.Opened.{opens-sound}
+use Rattle.promises.proofs.AllocateKept.{allocate-keeps}
+use Rattle.promises.proofs.FreeKept.{free-keeps}
+use Rattle.promises.proofs.ResizeKept.{resize-keeps}
+use Rattle.promises.proofs.NoRoomExact.{no-room-exactly}
+use Rattle.promises.proofs.Longer.{longer-agrees}
+
+pub promised : {w : ℕ} → Width w → Promised (shape w)
+promised {w} wd =
+    record {
+      determined = determined (shape w);
+      reading-determined = reading-determined (shape w);
+      refused-untouched = refused-untouched (shape w);
+      accepts-exactly = accepts-exactly wd;
+      one-layout = one-layout wd;
+      stays-sound = stays-sound wd;
+      opens-sound = opens-sound wd;
+      no-overlap = no-overlap (shape w);
+      in-area = in-area (shape w);
+      no-word-inside = no-word-inside (shape w);
+      allocate-keeps = allocate-keeps wd;
+      free-keeps = free-keeps wd;
+      resize-keeps = resize-keeps wd;
+      no-room-exactly = no-room-exactly wd;
+      longer-agrees = longer-agrees wd;
+    }
+
+pub wide-promised : Promised wide
+wide-promised = promised eight
+
+pub hand-promised : Promised hand
+hand-promised = promised four
