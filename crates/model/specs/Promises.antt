@@ -9,10 +9,11 @@ use Rattle.model.specs.Picture.{Word}
 use Rattle.model.specs.Shape.{Shape, start, largestItem, classOf, needOf, pageNeed}
 use Rattle.model.specs.Layout.{free, Layout, words}
 use Rattle.model.specs.Sound.{Sound, Valid, Here}
-use Rattle.model.specs.Rules.{find, stays}
+use Rattle.model.specs.Rules.{nothing, find, stays}
 use Rattle.model.specs.Live.{_∈_, InTurn, Payload, content, live}
-use Rattle.model.specs.Refusals.{noRoom}
-use Rattle.model.specs.Calls.{Outcome, refused, Lent, Initialises, Checks, Allocates, Frees, Resizes, LooksUp, Steps, Counts, Tabulates}
+use Rattle.model.specs.Reading.{Step, Statistics, lookedUp}
+use Rattle.model.specs.Refusals.{badLength, notOpened, notSound, badSize, notLive, noRoom, alreadyOpened}
+use Rattle.model.specs.Calls.{Outcome, Told, refused, Lent, Initialises, Checks, Allocates, Frees, Resizes, LooksUp, Steps, Counts, Tabulates}
 
 -- a call that may change the heap, by its sizes and addresses
 pub data Call : Type 0 where
@@ -21,6 +22,20 @@ pub data Call : Type 0 where
   allocating : ℕ → Call
   freeing : ℕ → Call
   resizing : ℕ → ℕ → Call
+
+-- the numbers that a call can answer at all; those that a call that only reads can, and a look-up
+unfoldable pub numbersOf : Call → List ℕ
+numbersOf initialising = 0 ∷ badLength ∷ alreadyOpened ∷ []
+numbersOf checking = 0 ∷ badLength ∷ notOpened ∷ notSound ∷ []
+numbersOf (allocating n) = 0 ∷ badLength ∷ notOpened ∷ notSound ∷ badSize ∷ noRoom ∷ []
+numbersOf (freeing a) = 0 ∷ badLength ∷ notOpened ∷ notSound ∷ notLive ∷ []
+numbersOf (resizing a n) = 0 ∷ badLength ∷ notOpened ∷ notSound ∷ badSize ∷ notLive ∷ noRoom ∷ []
+
+abbrev pub readingNumbers : List ℕ
+readingNumbers = 0 ∷ badLength ∷ notOpened ∷ notSound ∷ []
+
+abbrev pub lookUpNumbers : List ℕ
+lookUpNumbers = 0 ∷ badLength ∷ notOpened ∷ notSound ∷ notLive ∷ []
 
 module _ (S : Shape) where
   -- what may come of a call on bytes b
@@ -34,6 +49,18 @@ module _ (S : Shape) where
   -- Demand 1: a refusal answers address 0 and leaves every byte as it was
   abbrev pub RefusedUntouched : Type 0
   RefusedUntouched = (b : List ℕ) (q : Call) (r : Outcome) → Comes b q r → (r .refusal ≡ 0 → ⊥) → r ≡ refused b (r .refusal)
+
+  -- a call answers none but its numbers
+  abbrev pub AnswersOnly : Type 0
+  AnswersOnly = (b : List ℕ) (q : Call) (r : Outcome) → Comes b q r → r .refusal ∈ numbersOf q
+
+  abbrev pub ReadingAnswersOnly : Type 0
+  ReadingAnswersOnly =
+      (b : List ℕ)
+      → ((a : ℕ) (r : Told (List ℕ)) → LooksUp S b a r → r .refusal ∈ lookUpNumbers)
+      × ((w : ℕ) (r : Told Step) → Steps S b w r → r .refusal ∈ readingNumbers)
+      × ((r : Told Statistics) → Counts S b r → r .refusal ∈ readingNumbers)
+      × ((r : Told (List (List ℕ))) → Tabulates S b r → r .refusal ∈ readingNumbers)
 
   -- Any two results that a contract allows are equal
   abbrev pub Determined : Type 0
@@ -73,6 +100,14 @@ module _ (S : Shape) where
       (end : ℕ) (L : Layout) → Valid S end L → (x : Payload) → x ∈ live S L → (v : Word) → v ∈ words S end L
       → x .address < v .at + S .word → v .at < x .address + x .size → ⊥
 
+  -- what is found at an address is what is live there, so that 5 is answered exactly where nothing is; and a look-up gives its content
+  abbrev pub FoundIsLive : Type 0
+  FoundIsLive =
+      (end : ℕ) (L : Layout) (a : ℕ) → Valid S end L → (find S a L ≡ nothing → ⊥) ↔ ((x : Payload) × (x ∈ live S L) × (x .address ≡ a))
+
+  abbrev pub LookUpShows : Type 0
+  LookUpShows = (end : ℕ) (b : List ℕ) (L : Layout) → Valid S end L → (x : Payload) → x ∈ live S L → lookedUp S b (x .address) L ≡ content b x
+
   -- a payload is live in a heap after a call as before it, with the same bytes; nothing is live but what was, and what stands at a
   abbrev pub Kept : List ℕ → List ℕ → Layout → Payload → Type 0
   Kept b b′ L′ x = (x ∈ live S L′) × (content b′ x ≡ content b x)
@@ -103,7 +138,7 @@ module _ (S : Shape) where
       → ((x : Payload) → x ∈ live S L → (x .address ≡ a → ⊥) → Kept b (r .heap) L′ x)
       × ((x : Payload) → x ∈ live S L′ → (x ∈ live S L) × (x .address ≡ a → ⊥))
 
-  -- resize alters no payload but its own, makes nothing else live, grants what holds n bytes, and keeps the common beginning
+  -- resize alters no payload but its own, makes nothing else live, grants what holds n bytes, and keeps the common beginning; where the record moved, its old address is dead
   abbrev pub ResizeKeeps : Type 0
   ResizeKeeps =
       (b : List ℕ) (a n : ℕ) (r : Outcome) (L L′ : Layout) → Grants b (resizing a n) r L L′
@@ -112,6 +147,7 @@ module _ (S : Shape) where
       × ((x : Payload) → x ∈ live S L → x .address ≡ a
       → ((y : Payload) × (y ∈ live S L′) × (y .address ≡ r .address) × (n ≤ y .size)
       × (take (min (x .size) n) (content (r .heap) y) ≡ take (min (x .size) n) (content b x))))
+      × ((r .address ≡ a → ⊥) → (x : Payload) → x ∈ live S L′ → x .address ≡ a → ⊥)
 
   -- "no room" exactly when there is no item and no block that fits
   abbrev pub NoBlock : ℕ → Layout → Type 0
@@ -166,6 +202,8 @@ module _ (S : Shape) where
     pub determined : Determined
     pub reading-determined : ReadingDetermined
     pub refused-untouched : RefusedUntouched
+    pub answers-only : AnswersOnly
+    pub reading-answers-only : ReadingAnswersOnly
     pub accepts-exactly : AcceptsExactly
     pub one-layout : OneLayout
     pub stays-sound : StaysSound
@@ -173,6 +211,8 @@ module _ (S : Shape) where
     pub no-overlap : NoOverlap
     pub in-area : InArea
     pub no-word-inside : NoWordInside
+    pub found-is-live : FoundIsLive
+    pub look-up-shows : LookUpShows
     pub allocate-keeps : AllocateKeeps
     pub free-keeps : FreeKeeps
     pub resize-keeps : ResizeKeeps

@@ -9,6 +9,8 @@ pub mod Answers
 pub mod AllocateKept
 pub mod FreeKept
 pub mod Parts
+pub mod Numbers
+pub mod FoundLive
 pub mod Moved
 pub mod ResizeKept
 pub mod StaysSound

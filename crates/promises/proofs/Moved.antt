@@ -25,6 +25,7 @@ use Rattle.model.proofs.pictures.Written.{kept-here}
 use Rattle.promises.proofs.Answers.{Does, draws, drawn-length, drawn-bytes}
 use Rattle.model.proofs.lives.LiveFound.{isThere, live-found, live-apart}
 use Rattle.model.proofs.lives.FreeLives.{Removed, freed-removes}
+use Rattle.promises.proofs.FoundLive.{is-there, found-size}
 use Rattle.promises.proofs.Parts.{take-take, part-moved}
 
 module _ {w : ℕ} (wd : Width w) where
@@ -36,20 +37,13 @@ module _ {w : ℕ} (wd : Width w) where
       × ((x : Payload) → x ∈ live (shape w) L → x .address ≡ a
       → ((y : Payload) × (y ∈ live (shape w) M) × (y .address ≡ r .address) × (n ≤ y .size)
       × (take (min (x .size) n) (content (r .heap) y) ≡ take (min (x .size) n) (content b x))))
-
-  pub is-there : (f : Found) → isThere f ≡ 1 → f ≡ nothing → ⊥
-  is-there f e n = omega (arith, e, ap isThere n)
+      × ((r .address ≡ a → ⊥) → (x : Payload) → x ∈ live (shape w) M → x .address ≡ a → ⊥)
 
   min-left : (m n : ℕ) → min m n ≤ m
   min-left m n = omega arith
 
   min-right : (m n : ℕ) → min m n ≤ n
   min-right m n = omega arith
-
-  -- the old payload is the one that was found
-  found-size : (end : ℕ) (L : Layout) (a : ℕ) (f : Found) → Removed (shape w) end L a f → (x : Payload) → x ∈ live (shape w) L → x .address ≡ a → x .size ≡ capacity (shape w) f
-  found-size end L a f r x h e =
-      ⊎-elim (λ i. absurd (r .adds .new x i (e ∙ sym (r .at)))) (λ i. ap (λ (y : Payload). y .size) i ∙ r .size) (r .adds .only x h)
 
   module _ (b : List ℕ) (L : Layout) (l : Lent (shape w) b) (h : Here (shape w) b L) (a n : ℕ) (one : 1 ≤ n) (m : Made) (fm : allocate (shape w) n L ≡ some m) (live-there : isThere (find (shape w) a L) ≡ 1) where
     new : Granted (shape w) (endOf (length b)) n L m
@@ -151,7 +145,7 @@ module _ {w : ℕ} (wd : Width w) where
     beginning : (x : Payload) → x ∈ live (shape w) L → x .address ≡ a
         → take (min (x .size) n) (content (drawn (shape w) (without (shape w) a K) copiedBytes) (new .payload)) ≡ take (min (x .size) n) (content b x)
     beginning x k e =
-        let s : x .size ≡ capacity (shape w) (find (shape w) a L) = found-size (endOf (length b)) L a (find (shape w) a L) was x k e in
+        let s : x .size ≡ capacity (shape w) (find (shape w) a L) = found-size wd (endOf (length b)) L a (find (shape w) a L) was x k e in
         let i = new .adds .kept x k in
         let y = new .payload in
         let low : min (x .size) n ≤ y .size = omega (arith, new .large, min-right (x .size) n) in
@@ -168,4 +162,5 @@ module _ {w : ℕ} (wd : Width w) where
       others-kept,
       (λ x k. ⊎-elim (λ i. inl i) (λ e. inr (ap (λ (y : Payload). y .address) e ∙ new .at)) (new .adds .only x (gone .adds .kept x k))),
       (λ x k e. (new .payload, new-still, new .at, new .large, beginning x k e)),
+      (λ n x k e. gone .adds .new x k (e ∙ sym (gone .at))),
     )

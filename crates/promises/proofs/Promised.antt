@@ -8,6 +8,8 @@ use Rattle.model.proofs.lives.Payloads.{in-area, no-overlap, no-word-inside}
 use Rattle.sound.proofs.OneLayout.{one-layout}
 use Rattle.promises.proofs.Determined.{determined, reading-determined}
 use Rattle.promises.proofs.Refused.{refused-untouched}
+use Rattle.promises.proofs.Numbers.{answers-only, reading-answers-only}
+use Rattle.promises.proofs.FoundLive.{found-is-live, look-up-shows}
 use Rattle.promises.proofs.Accepts.{accepts-exactly}
 use Rattle.promises.proofs.StaysSound.{stays-sound}
 use Rattle.promises.proofs.Opened.{opens-sound}
@@ -23,6 +25,8 @@ promised {w} wd =
       determined = determined (shape w);
       reading-determined = reading-determined (shape w);
       refused-untouched = refused-untouched (shape w);
+      answers-only = answers-only (shape w);
+      reading-answers-only = reading-answers-only (shape w);
       accepts-exactly = accepts-exactly wd;
       one-layout = one-layout wd;
       stays-sound = stays-sound wd;
@@ -30,6 +34,8 @@ promised {w} wd =
       no-overlap = no-overlap (shape w);
       in-area = in-area (shape w);
       no-word-inside = no-word-inside (shape w);
+      found-is-live = found-is-live wd;
+      look-up-shows = look-up-shows wd;
       allocate-keeps = allocate-keeps wd;
       free-keeps = free-keeps wd;
       resize-keeps = resize-keeps wd;

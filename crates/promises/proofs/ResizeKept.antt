@@ -42,6 +42,7 @@ module _ {w : ℕ} (wd : Width w) where
           ∙ ap (λ (z : ℕ). take (min (x .size) n) (drop z b)) (s .at ∙ sym e)
           ∙ sym (take-take (min (x .size) n) (x .size) (drop (x .address) b) (min-le-left (x .size) n)),
     )),
+    (λ n. absurd (n refl)),
   )
 
   -- a granted resize leaves a heap with a layout, and what is promised holds of it

@@ -1,0 +1,132 @@
+-- Which numbers a call can answer at all.
+use Prim.Native.Nat.{ℕ, min}
+use mathlib.Core.Path.{_≡_, refl, ap, sym, subst, _∙_}
+use mathlib.Core.Bool.{Bool, true, false, cond, _&&_, false≢true}
+use mathlib.Core.List.{List, [], _∷_}
+use mathlib.Core.Logic.{_⊎_, inl, inr, ⊎-elim}
+use mathlib.Core.Option.{Option, none, some}
+use native.Mathlib.Decide.{ℕ-discrete}
+use lib.Dec.{eqb, leb}
+use borrow.Author.Tests.{ne-eqb}
+use Rattle.words.specs.Copy.{copied}
+use Rattle.model.specs.Shape.{Shape}
+use Rattle.model.specs.Layout.{Layout}
+use Rattle.model.specs.Rules.{Made, Found, block, thing, nothing, allocate, find, stays, capacity}
+use Rattle.model.specs.Reading.{counted, table, lookedUp, ended, step}
+use Rattle.model.specs.Live.{_∈_}
+use Rattle.model.specs.Refusals.{badLength, notOpened, notSound, badSize, notLive, noRoom, alreadyOpened}
+use Rattle.model.specs.Calls.{Outcome, Told, refused, granted, Checked, sized, found, made, resized, allocated, moved, drawn, without}
+use Rattle.model.specs.Promises.{initialising, checking, allocating, freeing, resizing, numbersOf, readingNumbers, lookUpNumbers, Comes, AnswersOnly, ReadingAnswersOnly}
+use Rattle.promises.proofs.Cases.{checked-cases, opening-cases}
+
+-- a number that cannot be missing from a list stands in it
+sure-in : (x : ℕ) (l : List ℕ) → ((x ∈ l → ⊥) → ⊥) → x ∈ l
+unfolding _∈_
+sure-in x [] n = absurd (n (λ h. h))
+sure-in x (y ∷ l) n = go (ℕ-discrete x y) (sure-in x l)
+  where
+    go : Dec (x ≡ y) → (((x ∈ l → ⊥) → ⊥) → x ∈ l) → (x ≡ y) ⊎ (x ∈ l)
+    go (yes e) r = inl e
+    go (no e) r = inr (r (λ m. n (λ h. ⊎-elim e m h)))
+
+-- whether a number stands in a list, to be computed
+unfoldable isIn : ℕ → List ℕ → Bool
+isIn x [] = false
+isIn x (y ∷ l) = cond (eqb x y) true (isIn x l)
+
+stands : (x : ℕ) (l : List ℕ) → isIn x l ≡ true → x ∈ l
+unfolding _∈_ isIn
+stands x [] h = absurd (false≢true h)
+stands x (y ∷ l) h = go (ℕ-discrete x y) (stands x l)
+  where
+    go : Dec (x ≡ y) → (isIn x l ≡ true → x ∈ l) → (x ≡ y) ⊎ (x ∈ l)
+    go (yes e) r = inl e
+    go (no n) r = inr (r (rw (ne-eqb x y n) at h))
+
+module _ (S : Shape) (b : List ℕ) (l : List ℕ) where
+  sized-in : (n : ℕ) (o : Outcome) → badSize ∈ l → o .refusal ∈ l → sized S n b o .refusal ∈ l
+  sized-in n o bad h = go (leb 1 n && leb n (S .most))
+    where
+      go : (y : Bool) → cond y o (refused b badSize) .refusal ∈ l
+      go true = h
+      go false = bad
+
+  found-in : {A : Type 0} (number : A → ℕ) (f : Found) (else next : A) → number else ∈ l → number next ∈ l → number (found S f else next) ∈ l
+  found-in number (block t) else next e h = h
+  found-in number (thing o c) else next e h = h
+  found-in number nothing else next e h = e
+
+  made-in : (m : Option Made) (heap : Made → List ℕ) → 0 ∈ l → noRoom ∈ l → made S b m heap .refusal ∈ l
+  made-in none heap z h = h
+  made-in (some m) heap z h = z
+
+  resized-in : (a : ℕ) (move : Outcome) (s : Option Layout) → 0 ∈ l → move .refusal ∈ l → resized S b a move s .refusal ∈ l
+  resized-in a move none z h = h
+  resized-in a move (some M) z h = z
+
+  -- what is equal to something with a number in the list has one
+  same-in : {A : Type 0} (number : A → ℕ) {r o : A} → r ≡ o → number o ∈ l → number r ∈ l
+  same-in number e h = subst (λ (x : ℕ). x ∈ l) (sym (ap number e)) h
+
+  checked-in : {A : Type 0} (number : A → ℕ) (no-with : ℕ → A) → ((k : ℕ) → number (no-with k) ≡ k) → badLength ∈ l → notOpened ∈ l → notSound ∈ l
+      → (rule : Layout → A) → ((L : Layout) → number (rule L) ∈ l) → (r : A) → Checked S b no-with rule r → number r ∈ l
+  checked-in number no-with is one two three rule h r c =
+      sure-in (number r) l
+      (checked-cases S b (λ m. same-in number (c .one m) (subst (λ (x : ℕ). x ∈ l) (sym (is badLength)) one)) (λ x m. same-in number (c .two x m) (subst (λ (x : ℕ). x ∈ l) (sym (is notOpened)) two))
+      (λ x o m. same-in number (c .three x o m) (subst (λ (x : ℕ). x ∈ l) (sym (is notSound)) three)) (λ x L k. same-in number (c .sound x L k) (h L)))
+
+  refused-in : badLength ∈ l → notOpened ∈ l → notSound ∈ l → (rule : Layout → Outcome) → ((L : Layout) → rule L .refusal ∈ l) → (r : Outcome) → Checked S b (refused b) rule r → r .refusal ∈ l
+  refused-in = checked-in (λ o. o .refusal) (refused b) (λ k. refl)
+
+  told-in : {A : Type 0} (none-with : A) → badLength ∈ l → notOpened ∈ l → notSound ∈ l
+      → (rule : Layout → Told A) → ((L : Layout) → rule L .refusal ∈ l) → (r : Told A) → Checked S b (λ k. record { refusal = k; answer = none-with }) rule r → r .refusal ∈ l
+  told-in none-with = checked-in (λ o. o .refusal) (λ k. record { refusal = k; answer = none-with }) (λ k. refl)
+
+pub answers-only : (S : Shape) → AnswersOnly S
+unfolding Comes numbersOf isIn
+answers-only S b initialising r c =
+    let l = numbersOf initialising in
+    let number : Outcome → ℕ = λ o. o .refusal in
+    sure-in (r .refusal) l
+    (opening-cases S b (λ m. same-in S b l number (c .one m) (stands badLength l refl)) (λ x o. same-in S b l number (c .seven x o) (stands alreadyOpened l refl)) (λ x m. same-in S b l number (c .opens x m) (stands 0 l refl)))
+answers-only S b checking r c =
+    let l = numbersOf checking in
+    refused-in S b l (stands badLength l refl) (stands notOpened l refl) (stands notSound l refl) (λ L. granted 0 b) (λ L. stands 0 l refl) r c
+answers-only S b (allocating n) r c =
+    let l = numbersOf (allocating n) in
+    refused-in S b l (stands badLength l refl) (stands notOpened l refl) (stands notSound l refl) (λ L. sized S n b (allocated S b n L))
+    (λ L. sized-in S b l n (allocated S b n L) (stands badSize l refl) (made-in S b l (allocate S n L) (λ m. drawn S (m .layout) b) (stands 0 l refl) (stands noRoom l refl)))
+    r c
+answers-only S b (freeing a) r c =
+    let l = numbersOf (freeing a) in
+    refused-in S b l (stands badLength l refl) (stands notOpened l refl) (stands notSound l refl) (λ L. found S (find S a L) (refused b notLive) (granted 0 (drawn S (without S a L) b)))
+    (λ L. found-in S b l (λ (o : Outcome). o .refusal) (find S a L) (refused b notLive) (granted 0 (drawn S (without S a L) b)) (stands notLive l refl) (stands 0 l refl))
+    r c
+answers-only S b (resizing a n) r c =
+    let l = numbersOf (resizing a n) in
+    let after : Layout → Outcome = λ L. resized S b a (moved S b a n L) (stays S n (find S a L) L) in
+    refused-in S b l (stands badLength l refl) (stands notOpened l refl) (stands notSound l refl) (λ L. sized S n b (found S (find S a L) (refused b notLive) (after L)))
+    (λ L. sized-in S b l n (found S (find S a L) (refused b notLive) (after L)) (stands badSize l refl)
+    (found-in S b l (λ (o : Outcome). o .refusal) (find S a L) (refused b notLive) (after L) (stands notLive l refl)
+    (resized-in S b l a (moved S b a n L) (stays S n (find S a L) L) (stands 0 l refl)
+    (made-in S b l (allocate S n L) (λ m. drawn S (without S a (m .layout)) (copied a (m .at) (min (capacity S (find S a L)) n) (drawn S (m .layout) b))) (stands 0 l refl) (stands noRoom l refl)))))
+    r c
+
+pub reading-answers-only : (S : Shape) → ReadingAnswersOnly S
+unfolding isIn
+reading-answers-only S b = (
+  (λ a r c.
+      let l = lookUpNumbers in
+      told-in S b l [] (stands badLength l refl) (stands notOpened l refl) (stands notSound l refl)
+      (λ L. found S (find S a L) (record { refusal = notLive; answer = [] }) (record { refusal = 0; answer = lookedUp S b a L }))
+      (λ L. found-in S b l (λ (o : Told (List ℕ)). o .refusal) (find S a L) (record { refusal = notLive; answer = [] }) (record { refusal = 0; answer = lookedUp S b a L }) (stands notLive l refl) (stands 0 l refl)) r c),
+  (λ w r c. reads (ended S w) (λ L. step S w L) r c),
+  (λ r c. reads (counted []) (λ L. counted (L .blocks)) r c),
+  (λ r c. reads (table S []) (λ L. table S (L .blocks)) r c),
+)
+  where
+    reads : {A : Type 0} (none-with : A) (rule : Layout → A) (r : Told A)
+        → Checked S b (λ k. record { refusal = k; answer = none-with }) (λ L. record { refusal = 0; answer = rule L }) r → r .refusal ∈ readingNumbers
+    reads none-with rule r c =
+        let l = readingNumbers in
+        told-in S b l none-with (stands badLength l refl) (stands notOpened l refl) (stands notSound l refl) (λ L. record { refusal = 0; answer = rule L }) (λ L. stands 0 l refl) r c
