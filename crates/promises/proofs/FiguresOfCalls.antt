@@ -21,95 +21,11 @@ use Rattle.model.specs.Live.{_∈_}
 use Rattle.model.specs.Refusals.{badLength}
 use Rattle.model.specs.Calls.{Outcome, refused, Lent, Opened, Initialises}
 use Rattle.model.specs.Promises.{Call, initialising, checking, allocating, freeing, resizing, Comes, Answer}
+use Rattle.promises.specs.Figures.{says, word, Figure, figure, unchanged, table, Outcomes, heapThen, heapBefore, answered, OnBytes}
 use Rattle.model.proofs.Sizes.{eight}
 use Rattle.model.proofs.rules.OnLayouts.{doing}
 use Rattle.promises.proofs.Opened.{opened-fresh}
 use Rattle.promises.proofs.Doing.{does}
-
--- an answer: a refusal and an address; a word: a position and its value
-abbrev says : ℕ → ℕ → Answer wide
-says k a = record { refusal = k; address = a }
-
-abbrev word : ℕ → ℕ → Word
-word p v = record { at = p; is = v }
-
--- a figure: a heap's length, the calls after initialise, the answers from initialise's on, words of the heap then, and whether the last call is said to change nothing
-pub record Figure : Type 0 where
-  pub bytes : ℕ
-  pub calls : List Call
-  pub answers : List (Answer wide)
-  pub words : List Word
-  pub still : Bool
-
-abbrev figure : ℕ → List Call → List (Answer wide) → List Word → Figure
-figure n qs rs ws = record { bytes = n; calls = qs; answers = rs; words = ws; still = false }
-
-abbrev unchanged : ℕ → List Call → List (Answer wide) → List Word → Figure
-unchanged n qs rs ws = record { bytes = n; calls = qs; answers = rs; words = ws; still = true }
-
--- document 01's list
-pub table : List Figure
-table =
-    -- N 343: 1. N 344: a free block of 32 at 312; allocate 1: 6
-    figure 343 [] (says 1 0 ∷ []) []
-    ∷ figure 344 [] (says 0 0 ∷ []) (word 24 312 ∷ word 312 32 ∷ [])
-    ∷ figure 344 (allocating 1 ∷ []) (says 0 0 ∷ says 6 0 ∷ []) []
-    -- N 351: end 344
-    ∷ figure 351 [] (says 0 0 ∷ []) (word 32 344 ∷ [])
-    -- H: free block at 312, size 9,688
-    ∷ figure 10000 [] (says 0 0 ∷ []) (word 24 312 ∷ word 312 9688 ∷ [])
-    -- H, allocate 300: address 320, tag 322, rest at 632, size 9,368
-    ∷ figure 10000 (allocating 300 ∷ []) (says 0 0 ∷ says 0 320 ∷ []) (word 312 322 ∷ word 24 632 ∷ word 632 9368 ∷ [])
-    -- then allocate 16: page at 632, tag 4,123; address 648, header 7; class 1 head 616; second item's header 10,245; rest at 4,752, size 5,248
-    ∷ figure 10000 (allocating 300 ∷ allocating 16 ∷ []) (says 0 0 ∷ says 0 320 ∷ says 0 648 ∷ [])
-    (word 632 4123 ∷ word 640 7 ∷ word 56 616 ∷ word 664 10245 ∷ word 24 4752 ∷ word 4752 5248 ∷ [])
-    -- then free 320: first free 312, its next 4,752
-    ∷ figure 10000 (allocating 300 ∷ allocating 16 ∷ freeing 320 ∷ []) (says 0 0 ∷ says 0 320 ∷ says 0 648 ∷ says 0 0 ∷ []) (word 24 312 ∷ word 320 4752 ∷ [])
-    -- then (a) allocate 264: rest of 40 at 592; (b) instead 272: rest of 32 at 600; (c) instead 273: whole, tag 322; all at address 320
-    ∷ figure 10000 (allocating 300 ∷ allocating 16 ∷ freeing 320 ∷ allocating 264 ∷ []) (says 0 0 ∷ says 0 320 ∷ says 0 648 ∷ says 0 0 ∷ says 0 320 ∷ []) (word 24 592 ∷ word 592 40 ∷ [])
-    ∷ figure 10000 (allocating 300 ∷ allocating 16 ∷ freeing 320 ∷ allocating 272 ∷ []) (says 0 0 ∷ says 0 320 ∷ says 0 648 ∷ says 0 0 ∷ says 0 320 ∷ []) (word 24 600 ∷ word 600 32 ∷ [])
-    ∷ figure 10000 (allocating 300 ∷ allocating 16 ∷ freeing 320 ∷ allocating 273 ∷ []) (says 0 0 ∷ says 0 320 ∷ says 0 648 ∷ says 0 0 ∷ says 0 320 ∷ []) (word 312 322 ∷ word 24 4752 ∷ [])
-    -- after 16 above, free 648: header 9,861, head 592; free 648 again: 5
-    ∷ figure 10000 (allocating 300 ∷ allocating 16 ∷ freeing 648 ∷ []) (says 0 0 ∷ says 0 320 ∷ says 0 648 ∷ says 0 0 ∷ []) (word 640 9861 ∷ word 56 592 ∷ [])
-    ∷ figure 10000 (allocating 300 ∷ allocating 16 ∷ freeing 648 ∷ freeing 648 ∷ []) (says 0 0 ∷ says 0 320 ∷ says 0 648 ∷ says 0 0 ∷ says 5 0 ∷ []) (word 640 9861 ∷ word 56 592 ∷ [])
-    -- allocate 256 needs N of 4,552; at 4,551: 6. Allocate 1 needs 4,440
-    ∷ figure 4552 (allocating 256 ∷ []) (says 0 0 ∷ says 0 328 ∷ []) []
-    ∷ figure 4551 (allocating 256 ∷ []) (says 0 0 ∷ says 6 0 ∷ []) []
-    ∷ figure 4440 (allocating 1 ∷ []) (says 0 0 ∷ says 0 328 ∷ []) []
-    ∷ figure 4439 (allocating 1 ∷ []) (says 0 0 ∷ says 6 0 ∷ []) []
-    -- H, allocate 600, resize 320 to 570: nothing changes; to 568: free block at 896, size 9,104
-    ∷ figure 10000 (allocating 600 ∷ []) (says 0 0 ∷ says 0 320 ∷ []) (word 312 618 ∷ word 24 928 ∷ word 928 9072 ∷ [])
-    ∷ unchanged 10000 (allocating 600 ∷ resizing 320 570 ∷ []) (says 0 0 ∷ says 0 320 ∷ says 0 320 ∷ []) (word 312 618 ∷ word 24 928 ∷ word 928 9072 ∷ [])
-    ∷ figure 10000 (allocating 600 ∷ resizing 320 568 ∷ []) (says 0 0 ∷ says 0 320 ∷ says 0 320 ∷ []) (word 24 896 ∷ word 896 9104 ∷ [])
-    -- H, allocate 600, resize 320 to 700: stays at 320, rest at 1,032, size 8,968
-    ∷ figure 10000 (allocating 600 ∷ resizing 320 700 ∷ []) (says 0 0 ∷ says 0 320 ∷ says 0 320 ∷ []) (word 24 1032 ∷ word 1032 8968 ∷ [])
-    ∷ []
-
--- outcomes that the calls' contracts allow, one after the other, from bytes b on; the bytes then, and before the last; and what was answered
-unfoldable pub Outcomes : List ℕ → List Call → List Outcome → Type 0
-Outcomes b [] [] = Unit {0}
-Outcomes b [] (r ∷ rs) = ⊥
-Outcomes b (q ∷ qs) [] = ⊥
-Outcomes b (q ∷ qs) (r ∷ rs) = Comes wide b q r × Outcomes (r .heap) qs rs
-
-unfoldable pub heapThen : List ℕ → List Outcome → List ℕ
-heapThen b [] = b
-heapThen b (r ∷ rs) = heapThen (r .heap) rs
-
-unfoldable pub heapBefore : List ℕ → List Outcome → List ℕ
-heapBefore b [] = b
-heapBefore b (r ∷ []) = b
-heapBefore b (r ∷ t ∷ rs) = heapBefore (r .heap) (t ∷ rs)
-
-unfoldable pub answered : List Outcome → List (Answer wide)
-answered [] = []
-answered (r ∷ rs) = says (r .refusal) (r .address) ∷ answered rs
-
--- a figure holds of the calls: for any bytes of its length that are not yet a heap, and any outcomes of its calls
-abbrev pub OnBytes : Figure → Type 0
-OnBytes f =
-    (b : List ℕ) → length b ≡ f .bytes → (Opened wide b → ⊥) → (rs : List Outcome) → Outcomes b (initialising ∷ f .calls) rs
-    → (answered rs ≡ f .answers) × Shows 8 (heapThen b rs) (f .words) × (f .still ≡ true → Bytes b → heapThen b rs ≡ heapBefore b rs)
 
 -- the same calls on layouts: the layout then, and before the last; what is answered; and what is answered of a buffer of a bad length
 layoutThen : Layout → List Call → Layout

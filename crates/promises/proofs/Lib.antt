@@ -19,3 +19,4 @@ pub mod Longer
 pub mod Doing
 pub mod Promised
 pub mod FiguresOfCalls
+pub mod Needed
