@@ -1,6 +1,9 @@
 // The words by which free blocks are linked.
 use model::Position;
-use model::first_free;
+use model::far_tag_at;
+use model::first_free_at;
+use model::next_at;
+use model::previous_at;
 use words::put_word;
 use words::word;
 ghost use mathlib.Core.Path.{_≡_};
@@ -18,9 +21,9 @@ pub fn link_at(w: usize, prev: Position) -> Position
     ensures { λ r. ⌜ r .0 ≡ linkOf (shape w) (prev .0) ⌝ }
 {
     if prev.0 == 0 {
-        return Position(first_free(w));
+        return first_free_at(w);
     }
-    Position(prev.0 + w)
+    next_at(w, prev)
 }
 
 // Where the free block at next has its link back, or 0 where next is 0.
@@ -31,8 +34,7 @@ pub fn back_at(w: usize, h: &[u8], next: Position) -> Position
     if next.0 == 0 {
         return Position(0);
     }
-    let s = word(w, h, next.0);
-    Position(next.0 + s - 2 * w)
+    previous_at(w, next, word(w, h, next.0))
 }
 
 // The position v is written at another, unless that is 0.
@@ -51,9 +53,9 @@ pub fn put_free(w: usize, h: &mut [u8], p: Position, s: usize, prev: Position, n
     ensures { λ _. ⌜ now (h .exit) ≡ draw w (freeWords w (p .0) s (prev .0) (next .0)) (now (h .entry)) ⌝ }
 {
     put_word(w, h, p.0, s);
-    put_word(w, h, p.0 + w, next.0);
-    put_word(w, h, p.0 + s - 2 * w, prev.0);
-    put_word(w, h, p.0 + s - w, s);
+    put_word(w, h, next_at(w, p).0, next.0);
+    put_word(w, h, previous_at(w, p, s).0, prev.0);
+    put_word(w, h, far_tag_at(w, p, s).0, s);
 }
 
 // A free block from `from` to `to`, with the links of the free blocks before and behind it.

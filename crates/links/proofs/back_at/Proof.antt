@@ -13,17 +13,17 @@ returns c = simp (eq-eqb _ _ (c .if1 .taken))
 word-requires : tie.Need-word-requires
 word-requires c κs = omega (arith, c .before .before .before .pre .block (c .if1 .left))
 
-add-t6 : tie.Need-add-t6
-add-t6 c = omega (arith, c .before .before .before .before .before .pre .block (c .before .before .if1 .left), c .before .word .ensures)
-
-mul-t7 : tie.Need-mul-t7
-mul-t7 c = search needs
-
-sub-t8 : tie.Need-sub-t8
-sub-t8 c = omega (arith, c .before .before .before .before .before .pre .block (c .before .before .if1 .left), c .before .word .ensures)
+previous-at-requires : tie.Need-previous-at-requires
+previous-at-requires c κs = omega (arith, c .before .before .before .before .pre .block (c .before .if1 .left), c .word .ensures)
 
 returns-2 : tie.Need-returns-2
-returns-2 c = simp (ne-eqb _ _ (c .before .before .if1 .left), c .before .word .ensures)
+returns-2 c = simp (ne-eqb _ _ (c .before .before .if1 .left), c .previous-at .ensures, c .before .word .ensures)
 
 pub back-at-spec : {M : Type 1} → statement M
-back-at-spec = tie.close (tie.spec returns word-requires add-t6 mul-t7 sub-t8 returns-2)
+back-at-spec =
+    tie.close
+    (tie.spec
+    returns
+    word-requires
+    previous-at-requires
+    returns-2)

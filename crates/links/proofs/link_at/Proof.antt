@@ -4,19 +4,26 @@ use Rattle.links.proofs.link_at.Statement.{statement}
 use Rattle.links.proofs.link_at.Tie as tie
 use Rattle.links.proofs.link_at.Reads as reads
 use Rattle.links.proofs.link_at.Lts as lts
-use Rattle.model.proofs.first_free.Reads as first-free-reads
+use Rattle.model.proofs.first_free_at.Reads as first-free-at-reads
+use Rattle.model.proofs.next_at.Reads as next-at-reads
 
-first-free-requires : tie.Need-first-free-requires
-first-free-requires c κs = search needs
+first-free-at-requires : tie.Need-first-free-at-requires
+first-free-at-requires c κs = search needs
 
 returns : tie.Need-returns
-returns c = simp (eq-eqb _ _ (c .before .if1 .taken), c .first-free .ensures)
+returns c = simp (eq-eqb _ _ (c .before .if1 .taken), c .first-free-at .ensures)
 
-add-t5 : tie.Need-add-t5
-add-t5 c = search needs
+next-at-requires : tie.Need-next-at-requires
+next-at-requires c κs = search needs
 
 returns-2 : tie.Need-returns-2
-returns-2 c = simp (ne-eqb _ _ (c .before .if1 .left))
+returns-2 c = simp (ne-eqb _ _ (c .before .if1 .left), c .next-at .ensures)
 
 pub link-at-spec : {M : Type 1} → statement M
-link-at-spec = tie.close (tie.spec first-free-requires returns add-t5 returns-2)
+link-at-spec =
+    tie.close
+    (tie.spec
+    first-free-at-requires
+    returns
+    next-at-requires
+    returns-2)

@@ -10,29 +10,20 @@ use Rattle.words.proofs.put_word.Reads as put-word-reads
 put-word-requires : tie.Need-put-word-requires
 put-word-requires c κs = search needs
 
-add-put-word : tie.Need-add-put-word
-add-put-word c = search needs
+next-at-requires : tie.Need-next-at-requires
+next-at-requires c κs = search needs
 
 put-word-requires-2 : tie.Need-put-word-requires-2
 put-word-requires-2 c κs = search needs
 
-add-put-word-2 : tie.Need-add-put-word-2
-add-put-word-2 c = search needs
-
-mul-put-word : tie.Need-mul-put-word
-mul-put-word c = search needs
-
-sub-put-word : tie.Need-sub-put-word
-sub-put-word c = search needs
+previous-at-requires : tie.Need-previous-at-requires
+previous-at-requires c κs = search needs
 
 put-word-requires-3 : tie.Need-put-word-requires-3
 put-word-requires-3 c κs = search needs
 
-add-put-word-3 : tie.Need-add-put-word-3
-add-put-word-3 c = search needs
-
-sub-put-word-2 : tie.Need-sub-put-word-2
-sub-put-word-2 c = search needs
+far-tag-at-requires : tie.Need-far-tag-at-requires
+far-tag-at-requires c κs = search needs
 
 put-word-requires-4 : tie.Need-put-word-requires-4
 put-word-requires-4 c κs = search needs
@@ -49,14 +40,11 @@ put-free-spec =
     tie.close
     (tie.spec
     put-word-requires
-    add-put-word
+    next-at-requires
     put-word-requires-2
-    add-put-word-2
-    mul-put-word
-    sub-put-word
+    previous-at-requires
     put-word-requires-3
-    add-put-word-3
-    sub-put-word-2
+    far-tag-at-requires
     put-word-requires-4
     same-length
     returns)

@@ -19,4 +19,10 @@ returns-2 : tie.Need-returns-2
 returns-2 c = simp (eq-eqb _ _ (c .if1 .left))
 
 pub put-if-spec : {M : Type 1} → statement M
-put-if-spec = tie.close (tie.spec put-word-requires same-length returns returns-2)
+put-if-spec =
+    tie.close
+    (tie.spec
+    put-word-requires
+    same-length
+    returns
+    returns-2)
