@@ -1,5 +1,5 @@
 -- What is found, made and taken is what the rule allocates.
-use Prim.Native.Nat.{ℕ, _+_, _-_, _*_, _^_, _<_, _≤_}
+use Prim.Native.Nat.{ℕ, _+_, _-_, _<_, _≤_}
 use mathlib.Core.Path.{_≡_, refl, sym, ap, _∙_}
 use mathlib.Core.List.{List, []}
 use mathlib.Core.Option.{none}
@@ -7,11 +7,11 @@ use native.Mathlib.Omega.{arith}
 use lib.ListN.{length, getD}
 use lib.Seq.{getD-set-same}
 use borrow.Author.Tests.{le-leb, lt-leb}
-use Rattle.words.specs.Width.{Width}
 use Rattle.words.specs.Word.{wordAt}
 use Rattle.words.proofs.WordLaws.{Bytes}
 use Rattle.model.specs.declared.Address.{Address}
-use Rattle.model.specs.Shape.{shape, endOf, classOf, needOf, pageNeed, index, start, largestItem}
+use Rattle.model.specs.Shape.{shape, endOf, classOf, needOf, pageNeed, index, start, largestItem, addressOf}
+use Rattle.model.specs.Parts.{headAt}
 use Rattle.model.specs.Picture.{draw}
 use Rattle.model.specs.Layout.{Layout, headOf, words}
 use Rattle.model.specs.Sound.{Here}
@@ -35,9 +35,9 @@ use Rattle.engine.specs.declared.allocate.Taken.the-variants.{At, NoRoom
 use Rattle.engine.specs.Blocks.{Needed, Placed}
 use Rattle.engine.specs.Items.{HasItem, TookItem}
 use Rattle.engine.specs.Pages.{NoItem, MadePage}
-use Rattle.engine.specs.Allocate.{GivesItem, GivesBlock, Allocates}
+use Rattle.engine.specs.Allocate.{GivesItem, GivesBlock, GivesSize}
 use Rattle.engine.specs.Ready.{Ready}
-use Rattle.model.proofs.Sizes.{words-fit, page-eight, per-page-bound}
+use Rattle.model.proofs.Sizes.{page-eight, per-page-bound}
 
 -- p is where a block of size need fits first, or 0
 abbrev pub Finds : ℕ → List ℕ → ℕ → ℕ → Type 0
@@ -61,7 +61,7 @@ module _ {w : ℕ} {b : List ℕ} (k : Ready w b) where
   unfolding aBlock
   block-none need p f e = record { is = λ L h. rw (found-none (shape w) need L (sym (f L h) ∙ e)) (record { answer = refl; bytes = refl; here = h }) }
 
-  pub block-taken : (need p : ℕ) (a : List ℕ) (r : Address) → Finds w b need p → (p ≡ 0 → ⊥) → Needed w (length b) need → Placed w b p need a → r .0 ≡ p + w → GivesBlock w b need (At r) a
+  pub block-taken : (need p : ℕ) (a : List ℕ) (r : Address) → Finds w b need p → (p ≡ 0 → ⊥) → Needed w (length b) need → Placed w b p need a → r .0 ≡ addressOf (shape w) p → GivesBlock w b need (At r) a
   unfolding aBlock
   block-taken need p a r f z n d e =
       record {
@@ -76,17 +76,17 @@ module _ {w : ℕ} {b : List ℕ} (k : Ready w b) where
             });
       }
 
-  module _ {c : ℕ} (cl : c < 4 * w) where
+  module _ {c : ℕ} (cl : c < shape w .classes) where
     -- the first item of the list
-    pub has-item : (wordAt w b (index (shape w) + w * c) ≡ 0 → ⊥) → HasItem w b c
+    pub has-item : (wordAt w b (headAt (shape w) c) ≡ 0 → ⊥) → HasItem w b c
     has-item z = record { width = k .width; sound = k .sound; class = cl; short = k .short; some-item = z }
 
-    pub item-given : (a : List ℕ) (r : Address) → (wordAt w b (index (shape w) + w * c) ≡ 0 → ⊥) → TookItem w b c (r .0) a → GivesItem w b c (At r) a
+    pub item-given : (a : List ℕ) (r : Address) → (wordAt w b (headAt (shape w) c) ≡ 0 → ⊥) → TookItem w b c (r .0) a → GivesItem w b c (At r) a
     unfolding anItem fromList
     item-given a r z d =
         record {
           is = λ L h.
-              let o = wordAt w b (index (shape w) + w * c) in
+              let o = wordAt w b (headAt (shape w) c) in
               let f = first-item (k .width) b L h c cl o refl z in
               let i = d .is L o (f .0) h (f .1) in
               rw (f .1)
@@ -98,7 +98,7 @@ module _ {w : ℕ} {b : List ℕ} (k : Ready w b) where
         }
 
     -- an item of a new page
-    module _ (zero-head : wordAt w b (index (shape w) + w * c) ≡ 0) where
+    module _ (zero-head : wordAt w b (headAt (shape w) c) ≡ 0) where
       pub no-item : NoItem w b c
       no-item = record { width = k .width; class = cl; short = k .short; none = zero-head }
 
@@ -117,11 +117,11 @@ module _ {w : ℕ} {b : List ℕ} (k : Ready w b) where
         made-here : (L : Layout) (t : Spot) → SpotIn (shape w) b p (pageNeed (shape w) c) L t → Here (shape w) b₁ (paged (shape w) c t L)
         made-here L t x = rw (m .draws L t x) (paged-here (shape w) c x (shape-good (k .width)) cl (page-eight (k .width) c) (empty L (x .here)) (k .short))
 
-        made-head : (L : Layout) (t : Spot) → SpotIn (shape w) b p (pageNeed (shape w) c) L t → wordAt w b₁ (index (shape w) + w * c) ≡ 0 → ⊥
+        made-head : (L : Layout) (t : Spot) → SpotIn (shape w) b p (pageNeed (shape w) c) L t → wordAt w b₁ (headAt (shape w) c) ≡ 0 → ⊥
         made-head L t x e =
             let l = paged (shape w) c t L .lists in
             let f : getD l c [] ≡ _ = getD-set-same (L .lists) c _ [] (omega (arith, x .here .valid .classes)) in
-            let g : wordAt w b₁ (index (shape w) + w * c) ≡ spotAt (shape w) t + w - index (shape w) = head-read (shape w) b₁ (paged (shape w) c t L) (made-here L t x) c cl ∙ ap headOf f ∙ first-offset (shape w) c (spotAt (shape w) t + w) (shape w .perPage c) (omega (arith, per-page-bound (k .width) c)) in
+            let g : wordAt w b₁ (headAt (shape w) c) ≡ spotAt (shape w) t + w - index (shape w) = head-read (shape w) b₁ (paged (shape w) c t L) (made-here L t x) c cl ∙ ap headOf f ∙ first-offset (shape w) c (spotAt (shape w) t + w) (shape w .perPage c) (omega (arith, per-page-bound (k .width) c)) in
             omega (arith, e, g, le-ends (shape w) (start (shape w)) (t .pre))
 
         pub made-item : Spotted (shape w) b p (pageNeed (shape w) c) → HasItem w b₁ c
@@ -143,7 +143,7 @@ module _ {w : ℕ} {b : List ℕ} (k : Ready w b) where
                   let t = s .0 in
                   let x = s .2 in
                   let new = paged (shape w) c t L in
-                  let o = wordAt w b₁ (index (shape w) + w * c) in
+                  let o = wordAt w b₁ (headAt (shape w) c) in
                   let here₁ = made-here L t x in
                   let g = first-item (k .width) b₁ new here₁ c cl o refl (made-head L t x) in
                   let i = d .is new o (g .0) here₁ (g .1) in
@@ -164,10 +164,10 @@ module _ {w : ℕ} {b : List ℕ} (k : Ready w b) where
             }
 
 -- the two ways of allocate
-pub small-way : {w : ℕ} {b a : List ℕ} {r : Taken} (n c : ℕ) → c ≡ classOf n → n ≤ largestItem (shape w) → GivesItem w b c r a → Allocates w b n r a
+pub small-way : {w : ℕ} {b a : List ℕ} {r : Taken} (n c : ℕ) → c ≡ classOf n → n ≤ largestItem (shape w) → GivesItem w b c r a → GivesSize w b n r a
 unfolding allocate
 small-way {w} n c e l g = record { is = λ L h. rw (le-leb n (largestItem (shape w)) l, ← e) (g .is L h) }
 
-pub large-way : {w : ℕ} {b a : List ℕ} {r : Taken} (n need : ℕ) → need ≡ needOf (shape w) n → largestItem (shape w) < n → GivesBlock w b need r a → Allocates w b n r a
+pub large-way : {w : ℕ} {b a : List ℕ} {r : Taken} (n need : ℕ) → need ≡ needOf (shape w) n → largestItem (shape w) < n → GivesBlock w b need r a → GivesSize w b n r a
 unfolding allocate
 large-way {w} n need e l g = record { is = λ L h. rw (lt-leb n (largestItem (shape w)) l, ← e) (g .is L h) }

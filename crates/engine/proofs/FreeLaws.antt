@@ -7,20 +7,20 @@ use Rattle.model.specs.declared.Position.{Position}
 use Rattle.model.specs.Shape.{shape}
 use Rattle.model.specs.Layout.{Layout}
 use Rattle.model.specs.Sound.{Here}
-use Rattle.find.specs.declared.Block.{Block}
+use Rattle.find.specs.declared.VariableBlock.{VariableBlock}
 use Rattle.find.specs.declared.Live.{Live}
 use Rattle.find.specs.declared.Live.the-variants.{Nothing, Item, Variable}
 use Rattle.find.specs.Find.{Finds}
 use Rattle.engine.specs.Items.{ItemLive, GaveItem}
 use Rattle.engine.specs.Release.{BlockLive, Released}
-use Rattle.engine.specs.Free.{isFound, freedBytes, Freed}
+use Rattle.engine.specs.Free.{isFound, freedBytes, GivesBack}
 use Rattle.engine.specs.Ready.{Ready}
 
 module _ {w : ℕ} (b : List ℕ) (a : ℕ) (k : Ready w b) (x : Live) (f : (L : Layout) → Here (shape w) b L → Finds w L a x) where
   found-as : (y : Live) → x ≡ y → (L : Layout) → Here (shape w) b L → Finds w L a y
   found-as y e L h = subst (λ (z : Live). Finds w L a z) e (f L h)
 
-  pub free-none : x ≡ Nothing → Freed w b a false b
+  pub free-none : x ≡ Nothing → GivesBack w b a false b
   unfolding Finds
   free-none e =
       record {
@@ -36,7 +36,7 @@ module _ {w : ℕ} (b : List ℕ) (a : ℕ) (k : Ready w b) (x : Live) (f : (L :
         let g = found-as (Item q c) e (k .sound .layout) (k .sound .here) in
         record { width = k .width; layout = k .sound .layout; here = k .sound .here; short = k .short; low = g .0; address = a; found = g .1 }
 
-    pub free-item : (d : List ℕ) → GaveItem w b (q .0) c d → Freed w b a true d
+    pub free-item : (d : List ℕ) → GaveItem w b (q .0) c d → GivesBack w b a true d
     unfolding Finds
     free-item d g =
         record {
@@ -45,14 +45,14 @@ module _ {w : ℕ} (b : List ℕ) (a : ℕ) (k : Ready w b) (x : Live) (f : (L :
           sound = g .sound;
         }
 
-  module _ (y : Block) (e : x ≡ Variable y) where
+  module _ (y : VariableBlock) (e : x ≡ Variable y) where
     pub block-live : BlockLive w b y
     unfolding Finds
     block-live =
         let g = found-as (Variable y) e (k .sound .layout) (k .sound .here) in
         record { width = k .width; layout = k .sound .layout; here = k .sound .here; short = k .short; address = a; spot = g .0; found = g .1 }
 
-    pub free-block : (d : List ℕ) → Released w b y d → Freed w b a true d
+    pub free-block : (d : List ℕ) → Released w b y d → GivesBack w b a true d
     unfolding Finds
     free-block d g =
         record {

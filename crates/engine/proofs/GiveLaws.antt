@@ -1,5 +1,5 @@
 -- An item in use goes back to its list: what is read and what is written.
-use Prim.Native.Nat.{ℕ, _+_, _-_, _*_, _<_, _≤_}
+use Prim.Native.Nat.{ℕ, _+_, _*_, _<_, _≤_}
 use mathlib.Core.Path.{_≡_, sym, ap, subst, _∙_}
 use mathlib.Core.List.{List, []}
 use native.Mathlib.Omega.{arith}
@@ -8,6 +8,7 @@ use Rattle.words.specs.Width.{Width}
 use Rattle.words.specs.Word.{wordAt, put}
 use Rattle.words.proofs.WordLaws.{Bytes}
 use Rattle.model.specs.Shape.{shape, offsetOf, endOf, index, start}
+use Rattle.model.specs.Parts.{freeHeader, headAt}
 use Rattle.model.specs.Layout.{Layout, headOf}
 use Rattle.model.specs.Sound.{Here}
 use Rattle.model.specs.Rules.{thing, find, freed}
@@ -26,11 +27,11 @@ module _ {w : ℕ} (wd : Width w) (b : List ℕ) (L : Layout) (a q c : ℕ) (h :
   found = item-found (shape w) (shape-good wd) a (offsetOf (shape w) q) c (start (shape w)) (L .blocks) (omega arith) (h .valid .allowed) f
 
   pub record Numbers : Type 0 where
-    pub class : c < 4 * w
+    pub class : c < shape w .classes
     pub from : start (shape w) ≤ q
     pub inside : q + (8 + 2 * w) ≤ length b
     pub head : headOf (getD (L .lists) c []) ≤ shape w .most
-    pub read : wordAt w b (index (shape w) + w * c) ≡ headOf (getD (L .lists) c [])
+    pub read : wordAt w b (headAt (shape w) c) ≡ headOf (getD (L .lists) c [])
 
   pub numbers : Numbers
   numbers =
@@ -47,22 +48,22 @@ module _ {w : ℕ} (wd : Width w) (b : List ℕ) (L : Layout) (a q c : ℕ) (h :
   unfolding freed
   given-here = pushed-here (shape w) (shape-good wd) b L h c (offsetOf (shape w) q) (found .class) (found .there) (found .in-use) short
 
-  pub given-drawn : Bytes b → (first : ℕ) → first ≡ wordAt w b (index (shape w) + w * c) → put w (put w b (index (shape w) + w * c) (q - index (shape w))) q (16 * first + 4 * c + 1) ≡ drawn (shape w) (freed (shape w) (thing (offsetOf (shape w) q) c) L) b
+  pub given-drawn : Bytes b → (first : ℕ) → first ≡ wordAt w b (headAt (shape w) c) → put w (put w b (headAt (shape w) c) (offsetOf (shape w) q)) q (freeHeader c first) ≡ drawn (shape w) (freed (shape w) (thing (offsetOf (shape w) q) c) L) b
   unfolding freed
   given-drawn bytes first e =
       let n = numbers in
       let q′ : index (shape w) + offsetOf (shape w) q ≡ q = omega arith in
       let fe : first ≡ headOf (getD (L .lists) c []) = e ∙ n .read in
       let law = push-law (shape w) (shape-good wd) b L h c (offsetOf (shape w) q) (found .class) (found .there) (found .in-use) short bytes (omega (arith, n .inside, words-fit wd (length b) short)) (omega (arith, n .class, words-fit wd (headOf (getD (L .lists) c [])) (n .head))) in
-      rw fe (ap (λ (y : ℕ). put w (put w b (index (shape w) + w * c) (q - index (shape w))) y (16 * headOf (getD (L .lists) c []) + 4 * c + 1)) (sym q′) ∙ law)
+      rw fe (ap (λ (y : ℕ). put w (put w b (headAt (shape w) c) (offsetOf (shape w) q)) y (freeHeader c (headOf (getD (L .lists) c [])))) (sym q′) ∙ law)
 
 module _ {w : ℕ} (b : List ℕ) (q c : ℕ) (k : ItemLive w b q c) where
   pub give-numbers : Numbers (k .width) b (k .layout) (k .address) q c (k .here) (k .short) (k .low) (k .found)
   give-numbers = numbers (k .width) b (k .layout) (k .address) q c (k .here) (k .short) (k .low) (k .found)
 
-  pub give-law : Bytes b → (first : ℕ) → first ≡ wordAt w b (index (shape w) + w * c) → (d e : List ℕ) → d ≡ put w b (index (shape w) + w * c) (q - index (shape w)) → e ≡ put w d q (16 * first + 4 * c + 1) → GaveItem w b q c e
+  pub give-law : Bytes b → (first : ℕ) → first ≡ wordAt w b (headAt (shape w) c) → (d e : List ℕ) → d ≡ put w b (headAt (shape w) c) (offsetOf (shape w) q) → e ≡ put w d q (freeHeader c first) → GaveItem w b q c e
   give-law bytes first ef d e ed ee =
-      let all : e ≡ put w (put w b (index (shape w) + w * c) (q - index (shape w))) q (16 * first + 4 * c + 1) = rw ed at ee in
+      let all : e ≡ put w (put w b (headAt (shape w) c) (offsetOf (shape w) q)) q (freeHeader c first) = rw ed at ee in
       record {
         draws = λ L a h f. all ∙ given-drawn (k .width) b L a q c h (k .short) (k .low) f bytes first ef;
         sound = record {
@@ -74,8 +75,8 @@ module _ {w : ℕ} (b : List ℕ) (q c : ℕ) (k : ItemLive w b q c) where
       }
 
   -- the same where the head's place was worked out
-  pub give-at : Bytes b → (head first : ℕ) → head ≡ index (shape w) + w * c → first ≡ wordAt w b head → (d e : List ℕ) → d ≡ put w b head (q - index (shape w)) → e ≡ put w d q (16 * first + 4 * c + 1) → GaveItem w b q c e
+  pub give-at : Bytes b → (head first : ℕ) → head ≡ headAt (shape w) c → first ≡ wordAt w b head → (d e : List ℕ) → d ≡ put w b head (offsetOf (shape w) q) → e ≡ put w d q (freeHeader c first) → GaveItem w b q c e
   give-at bytes head first eh ef d e ed ee = give-law bytes first (rw eh at ef) d e (rw eh at ed) ee
 
-  pub give-first : (head first : ℕ) → head ≡ index (shape w) + w * c → first ≡ wordAt w b head → first ≤ shape w .most
+  pub give-first : (head first : ℕ) → head ≡ headAt (shape w) c → first ≡ wordAt w b head → first ≤ shape w .most
   give-first head first eh ef = let n = give-numbers in omega (arith, rw eh at ef, n .read, n .head)

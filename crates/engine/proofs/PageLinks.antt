@@ -8,6 +8,7 @@ use Rattle.words.specs.Width.{Width}
 use Rattle.words.specs.Word.{put}
 use Rattle.words.proofs.WordLaws.{length-put}
 use Rattle.model.specs.Shape.{shape, itemSize, offsetOf, index}
+use Rattle.model.specs.Parts.{freeHeader, freeMark}
 use Rattle.model.specs.Picture.{draw}
 use Rattle.model.specs.inner.Links.{itemWords}
 use Rattle.engine.specs.Pages.{ItemsRoom}
@@ -16,7 +17,7 @@ use Rattle.model.proofs.Sizes.{per-page-bound, most-bound}
 -- the items before `at` are linked: what is left to draw leads to the same bytes as all of them from the start
 pub record Linking (w : ℕ) (h₀ : List ℕ) (c p size n : ℕ) (h : List ℕ) (left at : ℕ) : Type 0 where
   pub width : Width w
-  pub class : c < 4 * w
+  pub class : c < shape w .classes
   pub size-is : size ≡ itemSize (shape w) c
   pub short : length h₀ ≤ shape w .most
   pub some : 1 ≤ left
@@ -45,10 +46,10 @@ module _ {w : ℕ} {h₀ : List ℕ} {c p size n : ℕ} {h : List ℕ} {left at 
       go k e = omega (arith, i .size-is, i .same, rw e at (i .room))
 
   -- the header that names the next item is a small number
-  pub link-small : 1 < left → (o : ℕ) → o ≡ offsetOf (shape w) (at + size) → 16 * o + 4 * c + 1 ≤ 20000000
+  pub link-small : 1 < left → (o : ℕ) → o ≡ offsetOf (shape w) (at + size) → freeHeader c o ≤ 20000000
   link-small l o e = omega (arith, link-more l, i .short, i .same, i .class, i .width, most-bound (i .width))
 
-  pub link-turn : 1 < left → (o : ℕ) (h′ : List ℕ) → o ≡ offsetOf (shape w) (at + size) → h′ ≡ put w h at (16 * o + 4 * c + 1) → Linking w h₀ c p size n h′ (left - 1) (at + size)
+  pub link-turn : 1 < left → (o : ℕ) (h′ : List ℕ) → o ≡ offsetOf (shape w) (at + size) → h′ ≡ put w h at (freeHeader c o) → Linking w h₀ c p size n h′ (left - 1) (at + size)
   unfolding draw itemWords
   link-turn l o h′ eo e = go (left - 2) (omega arith) (omega arith)
     where
@@ -63,12 +64,12 @@ module _ {w : ℕ} {h₀ : List ℕ} {c p size n : ℕ} {h : List ℕ} {left at 
             short = i .short;
             some = omega arith;
             low = omega (arith, i .low);
-            same = ap length e ∙ length-put w h at (16 * o + 4 * c + 1) ∙ i .same;
+            same = ap length e ∙ length-put w h at (freeHeader c o) ∙ i .same;
             room = rw (g, i .size-is) (omega (arith, z));
             rest = rw (g, e, eo, i .size-is) r;
           }
 
-  pub link-done : left ≤ 1 → (h′ : List ℕ) → h′ ≡ put w h at (4 * c + 1) → h′ ≡ draw w (itemWords (shape w) c p n) h₀
+  pub link-done : left ≤ 1 → (h′ : List ℕ) → h′ ≡ put w h at (freeMark c) → h′ ≡ draw w (itemWords (shape w) c p n) h₀
   unfolding draw itemWords
   link-done l h′ e =
       let f : left ≡ 1 = omega (arith, i .some) in

@@ -1,6 +1,7 @@
 -- A block is given back: what is read around it, and what is written for it.
-use Prim.Native.Nat.{ℕ, _+_, _-_, _*_, _<_, _≤_}
+use Prim.Native.Nat.{ℕ, _+_, _-_, _<_, _≤_}
 use mathlib.Core.Path.{_≡_, refl, sym, ap, subst, _∙_}
+use mathlib.Core.Bool.{Bool, true, false}
 use mathlib.Core.List.{List, [], _∷_, _++_, append-assoc, append-nil}
 use mathlib.Core.Logic.{_⊎_, inl, inr, ⊎-elim}
 use native.Mathlib.Omega.{arith}
@@ -10,14 +11,15 @@ use borrow.Author.Tests.{eq-eqb, ne-eqb}
 use Rattle.words.specs.Width.{Width}
 use Rattle.words.specs.Word.{wordAt}
 use Rattle.words.proofs.WordLaws.{Bytes}
-use Rattle.model.specs.Shape.{shape, endOf, start}
+use Rattle.model.specs.Shape.{shape, endOf, start, tags, leastFree}
+use Rattle.model.specs.Parts.{nextAt, previousAt}
 use Rattle.model.specs.Layout.{variable, Block, free, used, Layout, useSize, sizeOf, ends, firstFree, own, blockWords}
 use Rattle.model.specs.Sound.{Allowed, AllAllowed, Apart, Valid, Here}
 use Rattle.model.specs.Rules.{Spot, block, released, freed}
 use Rattle.model.specs.Calls.{drawn}
 use Rattle.model.proofs.Good.{shape-good}
 use Rattle.model.proofs.blocks.Blocks.{ends-append, last-append, allowed-left, allowed-right}
-use Rattle.model.specs.inner.Walks.{lastFree, endsFree}
+use Rattle.model.specs.inner.Walks.{flag, lastFree, endsFree}
 use Rattle.model.proofs.blocks.Replace.{three}
 use Rattle.model.proofs.blocks.Valid.{apart-right}
 use Rattle.model.proofs.blocks.Middle.{Middle, middle-at, FreeAt, start-le, middle-le, end-le, link-in, prev-in, next-in, back-in, all-post, free-read, link-shown, rewritten}
@@ -25,24 +27,24 @@ use Rattle.model.specs.inner.Links.{linkOf}
 use Rattle.model.proofs.pictures.Drawn.{drawn-here}
 use Rattle.model.proofs.walks.Standing.{sizes}
 use Rattle.model.proofs.walks.Finding.{block-found}
-use Rattle.model.proofs.blocks.Releasing.{free-or-not, Side, nobody, neighbour, left-side, right-side, right-not, old, sides-blocks, left-clear, released-is, ends-old, released-valid}
-use Rattle.find.specs.declared.Block as found
+use Rattle.model.proofs.blocks.Releasing.{Side, nobody, neighbour, left-side, right-side, right-not, old, sides-blocks, left-clear, released-is, ends-old, released-valid}
+use Rattle.find.specs.declared.VariableBlock.{VariableBlock}
 use Rattle.find.specs.Find.{BlockFound}
 use Rattle.links.specs.Links.{LinkRoom, freeWords, linkedBytes}
 use Rattle.engine.specs.Release.{leftAt, leftFree, rightAt, rightFree, RightRoom, BlockLive, Released}
-use Rattle.model.proofs.Sizes.{words-fit, most-bound}
+use Rattle.model.proofs.Sizes.{most-bound}
 
 -- the edges, by cases
-module _ (w : ℕ) (b : List ℕ) (p prev left : ℕ) where
-  pub left-touching : left ≡ 1 → (v : ℕ) → v ≡ wordAt w b (p - 2 * w) → (prev ≡ leftAt p prev left) × (v ≡ leftFree w b p prev left)
-  left-touching e v f = rw (eq-eqb left 1 e) (refl, f)
+module _ (w : ℕ) (b : List ℕ) (p prev : ℕ) (touching : Bool) where
+  pub left-touching : touching ≡ true → (at v : ℕ) → at ≡ previousAt (shape w) prev (p - prev) → v ≡ wordAt w b at → (prev ≡ leftAt p prev touching) × (v ≡ leftFree w b p prev touching)
+  left-touching e at v g f = rw e (refl, rw g at f)
 
-  pub left-apart : (left ≡ 1 → ⊥) → (p ≡ leftAt p prev left) × (prev ≡ leftFree w b p prev left)
-  left-apart n = rw (ne-eqb left 1 n) (refl, refl)
+  pub left-apart : touching ≡ false → (p ≡ leftAt p prev touching) × (prev ≡ leftFree w b p prev touching)
+  left-apart e = rw e (refl, refl)
 
 module _ (w : ℕ) (b : List ℕ) (q next : ℕ) where
-  pub right-touching : next ≡ q → (y v : ℕ) → y ≡ wordAt w b q → v ≡ wordAt w b (q + w) → (q + y ≡ rightAt w b q next) × (v ≡ rightFree w b q next)
-  right-touching e y v f g = rw (eq-eqb next q e) (ap (λ (x : ℕ). q + x) f, g)
+  pub right-touching : next ≡ q → (y at v : ℕ) → y ≡ wordAt w b q → at ≡ nextAt (shape w) q → v ≡ wordAt w b at → (q + y ≡ rightAt w b q next) × (v ≡ rightFree w b q next)
+  right-touching e y at v f k g = rw (eq-eqb next q e) (ap (λ (x : ℕ). q + x) f, rw k at g)
 
   pub right-apart : (next ≡ q → ⊥) → (q ≡ rightAt w b q next) × (next ≡ rightFree w b q next)
   right-apart n = rw (ne-eqb next q n) (refl, refl)
@@ -70,7 +72,7 @@ positive : {w : ℕ} → Width w → (x : Block) → Allowed (shape w) x → 0 <
 positive wd x a = omega (arith, sizes wd x a .0)
 
 -- what code knows of the block x that was found
-module _ {w : ℕ} (wd : Width w) (b : List ℕ) (L : Layout) (a : ℕ) (t : Spot) (x : found.Block) (h : Here (shape w) b L) (f : BlockFound w L a t x) where
+module _ {w : ℕ} (wd : Width w) (b : List ℕ) (L : Layout) (a : ℕ) (t : Spot) (x : VariableBlock) (h : Here (shape w) b L) (f : BlockFound w L a t x) where
   pub at : ℕ
   at = x .at .0
 
@@ -111,32 +113,30 @@ module _ {w : ℕ} (wd : Width w) (b : List ℕ) (L : Layout) (a : ℕ) (t : Spo
     reach : from + l ≡ x .at .0
     before-is : lastFree (shape w) (start (shape w)) pre 0 ≡ before
 
-  left-of : (left-bit : (x .left ≡ 0) ⊎ (x .left ≡ 1)) → (from before : ℕ) → from ≡ leftAt (x .at .0) (x .prev .0) (x .left) → before ≡ leftFree w b (x .at .0) (x .prev .0) (x .left) → LeftOf from before
-  left-of (inl z) from before ef eb =
-      let n = ne-eqb (x .left) 1 (λ e. omega arith) in
-      let ef′ : from ≡ x .at .0 = ef ∙ rw n refl in
-      let eb′ : before ≡ x .prev .0 = eb ∙ rw n refl in
+  left-of : (touching : Bool) → x .touching ≡ touching → (from before : ℕ) → from ≡ leftAt (x .at .0) (x .prev .0) (x .touching) → before ≡ leftFree w b (x .at .0) (x .prev .0) (x .touching) → LeftOf from before
+  left-of false z from before ef eb =
+      let ef′ : from ≡ x .at .0 = ef ∙ rw z refl in
+      let eb′ : before ≡ x .prev .0 = eb ∙ rw z refl in
       record {
         pre = t .pre;
         lefts = [];
         l = 0;
         side = nobody;
         pre-is = sym (append-nil (t .pre));
-        known = inl (f .touches ∙ z);
+        known = inl (f .touches ∙ ap flag z);
         begins = f .at ∙ sym ef′;
         reach = omega arith;
         before-is = f .before ∙ sym eb′;
       }
-  left-of (inr z) from before ef eb = touching (left-side (t .pre) (f .touches ∙ z))
+  left-of true z from before ef eb = joined (left-side (t .pre) (f .touches ∙ ap flag z))
     where
-      touching : (pre : List Block) × (s : ℕ) × (t .pre ≡ pre ++ (free s ∷ [])) → LeftOf from before
-      touching g =
+      joined : (pre : List Block) × (s : ℕ) × (t .pre ≡ pre ++ (free s ∷ [])) → LeftOf from before
+      joined g =
           let pre = g .0 in
           let s = g .1 in
           let e = g .2 in
-          let n = eq-eqb (x .left) 1 z in
-          let ef′ : from ≡ x .prev .0 = ef ∙ rw n refl in
-          let eb′ : before ≡ wordAt w b (x .at .0 - 2 * w) = eb ∙ rw n refl in
+          let ef′ : from ≡ x .prev .0 = ef ∙ rw z refl in
+          let eb′ : before ≡ wordAt w b (previousAt (shape w) (x .prev .0) (x .at .0 - x .prev .0)) = eb ∙ rw z refl in
           let p1 : ends (shape w) (start (shape w)) pre + s ≡ x .at .0 = unfold ends sizeOf in sym (ends-append (shape w) (start (shape w)) pre (free s ∷ [])) ∙ ap (λ (l : List Block). ends (shape w) (start (shape w)) l) (sym e) ∙ f .at in
           let p2 : ends (shape w) (start (shape w)) pre ≡ x .prev .0 = unfold lastFree in sym (last-append (shape w) (start (shape w)) pre (free s ∷ []) 0) ∙ ap (λ (l : List Block). lastFree (shape w) (start (shape w)) l 0) (sym e) ∙ f .before in
           let bl : L .blocks ≡ pre ++ ((free s ∷ []) ++ (used (variable (t .size)) ∷ t .post)) =
@@ -144,7 +144,7 @@ module _ {w : ℕ} (wd : Width w) (b : List ℕ) (L : Layout) (a : ℕ) (t : Spo
           let m = middle-at (shape w) b L pre (free s ∷ []) (used (variable (t .size)) ∷ t .post) (ends (shape w) (start (shape w)) pre) (ends (shape w) (start (shape w)) pre + s) (lastFree (shape w) (start (shape w)) pre 0) (firstFree (shape w) (ends (shape w) (start (shape w)) pre + s) (used (variable (t .size)) ∷ t .post) 0) h bl
           (record { begins = refl; finishes = unfold ends sizeOf in refl; before = refl; behind = refl }) in
           let v = free-read (shape w) m in
-          let p16 : ends (shape w) (start (shape w)) pre + s - 2 * w ≡ x .at .0 - 2 * w = omega arith in
+          let there : previousAt (shape w) (ends (shape w) (start (shape w)) pre) s ≡ previousAt (shape w) (x .prev .0) (x .at .0 - x .prev .0) = omega (arith, p1, p2) in
           record {
             pre = pre;
             lefts = free s ∷ [];
@@ -154,7 +154,7 @@ module _ {w : ℕ} (wd : Width w) (b : List ℕ) (L : Layout) (a : ℕ) (t : Spo
             known = inr (omega (arith, v .least));
             begins = p2 ∙ sym ef′;
             reach = omega (arith, p1, p2, ef′);
-            before-is = sym (v .prev-is) ∙ ap (λ (y : ℕ). wordAt w b y) p16 ∙ sym eb′;
+            before-is = sym (v .prev-is) ∙ ap (λ (y : ℕ). wordAt w b y) there ∙ sym eb′;
           }
 
   -- the right neighbour
@@ -198,7 +198,7 @@ module _ {w : ℕ} (wd : Width w) (b : List ℕ) (L : Layout) (a : ℕ) (t : Spo
               let post = v .1 in
               let k = eq-eqb next (x .at .0 + x .size) n in
               let et′ : to ≡ x .at .0 + x .size + wordAt w b (x .at .0 + x .size) = et ∙ rw k refl in
-              let eb′ : behind ≡ wordAt w b (x .at .0 + x .size + w) = eb ∙ rw k refl in
+              let eb′ : behind ≡ wordAt w b (nextAt (shape w) (x .at .0 + x .size)) = eb ∙ rw k refl in
               let bl : L .blocks ≡ (t .pre ++ (used (variable (t .size)) ∷ [])) ++ ((free s ∷ []) ++ post) =
               blocks-are ∙ ap (λ (l : List Block). t .pre ++ (used (variable (t .size)) ∷ l)) (v .2) ∙ sym (append-assoc (t .pre) (used (variable (t .size)) ∷ []) (free s ∷ post)) in
               let be : ends (shape w) (start (shape w)) (t .pre ++ (used (variable (t .size)) ∷ [])) ≡ x .at .0 + x .size =
@@ -221,11 +221,11 @@ module _ {w : ℕ} (wd : Width w) (b : List ℕ) (L : Layout) (a : ℕ) (t : Spo
               }
 
   -- all three together
-  joining : (left-bit : (x .left ≡ 0) ⊎ (x .left ≡ 1)) → (next from to before behind : ℕ) → next ≡ wordAt w b (linkOf (shape w) (x .prev .0))
-      → from ≡ leftAt (x .at .0) (x .prev .0) (x .left) → before ≡ leftFree w b (x .at .0) (x .prev .0) (x .left) → to ≡ rightAt w b (x .at .0 + x .size) next → behind ≡ rightFree w b (x .at .0 + x .size) next
+  joining : (next from to before behind : ℕ) → next ≡ wordAt w b (linkOf (shape w) (x .prev .0))
+      → from ≡ leftAt (x .at .0) (x .prev .0) (x .touching) → before ≡ leftFree w b (x .at .0) (x .prev .0) (x .touching) → to ≡ rightAt w b (x .at .0 + x .size) next → behind ≡ rightFree w b (x .at .0 + x .size) next
       → Joining w b L t from to before behind
-  joining bit next from to before behind en ef eb et eh =
-      let u = left-of bit from before ef eb in
+  joining next from to before behind en ef eb et eh =
+      let u = left-of (x .touching) refl from before ef eb in
       let v = right-of next (next-free next en) to behind et eh in
       let bl : L .blocks ≡ u .pre ++ (old (shape w) (endOf (length b)) (L .lists) t (u .pre) (u .lefts) (v .rights) (v .post) (u .l) (v .r) (u .side) (v .side) (u .pre-is) (v .post-is) ++ v .post) =
       blocks-are ∙ sides-blocks (shape w) (endOf (length b)) (L .lists) t (u .pre) (u .lefts) (v .rights) (v .post) (u .l) (v .r) (u .side) (v .side) (u .pre-is) (v .post-is) in
@@ -303,11 +303,11 @@ module _ {w : ℕ} (wd : Width w) (b : List ℕ) (L : Layout) (t : Spot) (from t
         behind-inside = omega (arith, back-in (shape w) middle (omega (arith, j .extent, valid-size)));
       }
     where
-      valid-size : 4 * w ≤ j .l + (t .size + j .r)
+      valid-size : leastFree (shape w) ≤ j .l + (t .size + j .r)
       valid-size = unfold AllAllowed Allowed in allowed-left (shape w) (free size ∷ []) (j .post) (allowed-right (shape w) (j .pre) ((free size ∷ []) ++ j .post) (valid .allowed)) .0 .0
 
 -- what code reads and writes, in its own numbers
-module _ {w : ℕ} (b : List ℕ) (x : found.Block) (k : BlockLive w b x) where
+module _ {w : ℕ} (b : List ℕ) (x : VariableBlock) (k : BlockLive w b x) where
   pub live : Middle (shape w) b (endOf (length b)) (k .layout .lists) (k .spot .pre) (used (variable (k .spot .size)) ∷ []) (k .spot .post) (x .at .0) (x .at .0 + x .size) (x .prev .0) (firstFree (shape w) (x .at .0 + x .size) (k .spot .post) 0)
   live = self (k .width) b (k .layout) (k .address) (k .spot) x (k .here) (k .found)
 
@@ -334,17 +334,17 @@ module _ {w : ℕ} (b : List ℕ) (x : found.Block) (k : BlockLive w b x) where
             (λ z. inside n z) (next-in (shape w) live);
       }
     where
-      inside : next ≡ x .at .0 + x .size → FreeAt (shape w) b (x .at .0 + x .size) (endOf (length b)) (firstFree (shape w) (x .at .0 + x .size) (k .spot .post) 0) → (2 * w ≤ wordAt w b (x .at .0 + x .size)) × (x .at .0 + x .size + wordAt w b (x .at .0 + x .size) ≤ length b)
+      inside : next ≡ x .at .0 + x .size → FreeAt (shape w) b (x .at .0 + x .size) (endOf (length b)) (firstFree (shape w) (x .at .0 + x .size) (k .spot .post) 0) → (tags (shape w) ≤ wordAt w b (x .at .0 + x .size)) × (x .at .0 + x .size + wordAt w b (x .at .0 + x .size) ≤ length b)
       inside n z =
           let q : firstFree (shape w) (x .at .0 + x .size) (k .spot .post) 0 ≡ x .at .0 + x .size = sym (next-free (k .width) b (k .layout) (k .address) (k .spot) x (k .here) (k .found) next e) ∙ n in
           let y : FreeAt (shape w) b (x .at .0 + x .size) (endOf (length b)) (x .at .0 + x .size) = rw q at z in
           (omega (arith, y .least), omega (arith, y .high))
 
-  module _ (next from to before behind : ℕ) (en : next ≡ wordAt w b (linkOf (shape w) (x .prev .0))) (ef : from ≡ leftAt (x .at .0) (x .prev .0) (x .left)) (eb : before ≡ leftFree w b (x .at .0) (x .prev .0) (x .left)) (et : to ≡ rightAt w b (x .at .0 + x .size) next)
+  module _ (next from to before behind : ℕ) (en : next ≡ wordAt w b (linkOf (shape w) (x .prev .0))) (ef : from ≡ leftAt (x .at .0) (x .prev .0) (x .touching)) (eb : before ≡ leftFree w b (x .at .0) (x .prev .0) (x .touching)) (et : to ≡ rightAt w b (x .at .0 + x .size) next)
       (eh : behind ≡ rightFree w b (x .at .0 + x .size) next) where
     join : (L : Layout) (a : ℕ) (t : Spot) → Here (shape w) b L → BlockFound w L a t x → Joining w b L t from to before behind
     join L a t h f =
-        joining (k .width) b L a t x h f (⊎-elim (λ z. inl (sym (f .touches) ∙ z)) (λ z. inr (sym (f .touches) ∙ z)) (free-or-not 0 (t .pre) (inl refl))) next from to before behind en ef eb et eh
+        joining (k .width) b L a t x h f next from to before behind en ef eb et eh
 
     pub release-room : LinkRoom w b from to before behind
     release-room =

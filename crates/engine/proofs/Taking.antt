@@ -1,5 +1,5 @@
--- A free block is read, and a block in use written in its place: the words of links, tags and rest, at document 01's numbers.
-use Prim.Native.Nat.{ℕ, _+_, _-_, _*_, _^_, _<_, _≤_}
+-- A free block is read, and a block in use written in its place: the words of links, tags and rest.
+use Prim.Native.Nat.{ℕ, _+_, _-_, _^_, _<_, _≤_}
 use mathlib.Core.Path.{_≡_, sym, ap, _∙_}
 use mathlib.Core.List.{List, [], _∷_, _++_, append-assoc}
 use mathlib.Core.Logic.{⊎-elim}
@@ -9,7 +9,8 @@ use borrow.Author.Tests.{lt-ltb, le-ltb}
 use Rattle.words.specs.Width.{Width}
 use Rattle.words.specs.Word.{wordAt, put}
 use Rattle.words.proofs.WordLaws.{Bytes}
-use Rattle.model.specs.Shape.{shape}
+use Rattle.model.specs.Shape.{shape, tags, leastFree}
+use Rattle.model.specs.Parts.{pageKind, tagOf, farTagAt, previousAt}
 use Rattle.model.specs.Picture.{Word, draw}
 use Rattle.model.specs.Layout.{Use, Block, free, useSize, own, useWords, words}
 use Rattle.model.specs.Sound.{Valid}
@@ -22,25 +23,24 @@ use Rattle.model.proofs.blocks.Taken.{takes-of, restWords, parts, size-there, n
 use Rattle.engine.specs.declared.blocks.Gap.{Gap}
 use Rattle.links.specs.Links.{freeWords}
 use Rattle.engine.specs.Blocks.{GapRoom, GapRead, PartRoom, lowWords, highWords}
-use Rattle.model.proofs.Sizes.{words-fit}
 
 module _ (w : ℕ) (g : Gap) (u kind : ℕ) (b : List ℕ) where
   -- the words up to the payload: with a free rest, and without
-  pub low-rest : u < g .size → (first : ℕ) (h₁ h₂ : List ℕ) → first ≡ g .at .0 + u → h₁ ≡ put w b (g .link .0) first → h₂ ≡ put w h₁ (g .at .0) (u + kind) → h₂ ≡ draw w (lowWords w g u kind) b
+  pub low-rest : u < g .size → (first : ℕ) (h₁ h₂ : List ℕ) → first ≡ g .at .0 + u → h₁ ≡ put w b (g .link .0) first → h₂ ≡ put w h₁ (g .at .0) (tagOf u kind) → h₂ ≡ draw w (lowWords w g u kind) b
   unfolding lowWords draw
   low-rest l first h₁ h₂ e e₁ e₂ = rw (lt-ltb u (g .size) l, e₂, e₁, e)
 
-  pub low-whole : g .size ≤ u → (first : ℕ) (h₁ h₂ : List ℕ) → first ≡ g .next .0 → h₁ ≡ put w b (g .link .0) first → h₂ ≡ put w h₁ (g .at .0) (u + kind) → h₂ ≡ draw w (lowWords w g u kind) b
+  pub low-whole : g .size ≤ u → (first : ℕ) (h₁ h₂ : List ℕ) → first ≡ g .next .0 → h₁ ≡ put w b (g .link .0) first → h₂ ≡ put w h₁ (g .at .0) (tagOf u kind) → h₂ ≡ draw w (lowWords w g u kind) b
   unfolding lowWords draw
   low-whole l first h₁ h₂ e e₁ e₂ = rw (le-ltb u (g .size) l, e₂, e₁, e)
 
   -- the words after it
-  pub high-rest : u < g .size → (h₁ h₂ h₃ : List ℕ) → h₁ ≡ put w b (g .at .0 + u - w) (u + kind) → h₂ ≡ draw w (freeWords w (g .at .0 + u) (g .size - u) (g .prev .0) (g .next .0)) h₁
+  pub high-rest : u < g .size → (h₁ h₂ h₃ : List ℕ) → h₁ ≡ put w b (farTagAt (shape w) (g .at .0) u) (tagOf u kind) → h₂ ≡ draw w (freeWords w (g .at .0 + u) (g .size - u) (g .prev .0) (g .next .0)) h₁
       → h₃ ≡ putIf (shape w) h₂ (g .back .0) (g .at .0 + u) → h₃ ≡ putIf (shape w) (draw w (highWords w g u kind) b) (g .back .0) (restAt (shape w) u (g .size) (g .at .0) (g .prev .0))
   unfolding highWords draw
   high-rest l h₁ h₂ h₃ e₁ e₂ e₃ = rw (lt-ltb u (g .size) l, e₃, e₂, e₁)
 
-  pub high-whole : g .size ≤ u → (h₁ h₂ : List ℕ) → h₁ ≡ put w b (g .at .0 + u - w) (u + kind) → h₂ ≡ putIf (shape w) h₁ (g .back .0) (g .prev .0)
+  pub high-whole : g .size ≤ u → (h₁ h₂ : List ℕ) → h₁ ≡ put w b (farTagAt (shape w) (g .at .0) u) (tagOf u kind) → h₂ ≡ putIf (shape w) h₁ (g .back .0) (g .prev .0)
       → h₂ ≡ putIf (shape w) (draw w (highWords w g u kind) b) (g .back .0) (restAt (shape w) u (g .size) (g .at .0) (g .prev .0))
   unfolding highWords draw
   high-whole l h₁ h₂ e₁ e₂ = rw (le-ltb u (g .size) l, e₂, e₁)
@@ -57,14 +57,14 @@ pub record GapIs (w : ℕ) (b : List ℕ) (p s prev next : ℕ) (g : Gap) : Type
 -- of any blocks in the middle, of the extent s
 module _ {w : ℕ} (wd : Width w) {b : List ℕ} {end : ℕ} {ls : List (List ℕ)} {pre old post : List Block} {p q prev next : ℕ} (m : Middle (shape w) b end ls pre old post p q prev next) (s : ℕ) (extent : p + s ≡ q) (g : Gap) (r : GapIs w b p s prev next g) where
   -- a block of size u has room in them
-  pub part-room : (u kind n : ℕ) → n ≡ length b → length b + 3 < 2 ^ 64 → u ≤ s → (u < s → u + 4 * w ≤ s) → 2 * w ≤ u → kind ≤ 3 → PartRoom w n g u kind
+  pub part-room : (u kind n : ℕ) → n ≡ length b → length b + pageKind < 2 ^ 64 → u ≤ s → (u < s → u + leastFree (shape w) ≤ s) → tags (shape w) ≤ u → kind ≤ pageKind → PartRoom w n g u kind
   part-room u kind n en small l rest low k =
       record {
         width = wd;
         small = omega arith;
         inside = omega (arith, r .at, r .size, end-le (shape w) m, m .inside);
         part = omega (arith, r .size);
-        tags = low;
+        least = low;
         rest = λ z. omega (arith, r .size, rest (omega (arith, r .size)));
         tag = k;
         linked = rw (r .link) (omega (arith, link-in (shape w) m, end-le (shape w) m, m .inside));
@@ -72,24 +72,24 @@ module _ {w : ℕ} (wd : Width w) {b : List ℕ} {end : ℕ} {ls : List (List �
       }
 
   -- what a need takes of them has room
-  pub part-need : (need u kind n : ℕ) → need ≤ s → u ≡ takes (shape w) need (g .size) → n ≡ length b → length b + 3 < 2 ^ 64 → 2 * w ≤ need → kind ≤ 3 → PartRoom w n g u kind
+  pub part-need : (need u kind n : ℕ) → need ≤ s → u ≡ takes (shape w) need (g .size) → n ≡ length b → length b + pageKind < 2 ^ 64 → tags (shape w) ≤ need → kind ≤ pageKind → PartRoom w n g u kind
   part-need need u kind n l eu en small low k =
       let z = takes-of (shape w) need s l in
       let u-is : u ≡ takes (shape w) need s = eu ∙ ap (λ (x : ℕ). takes (shape w) need x) (r .size) in
       part-room u kind n en small (omega (arith, u-is, z .within)) (λ j. rw u-is (z .rest (rw u-is at j))) (omega (arith, u-is, z .enough)) k
 
   -- its words in the order in which they are written
-  part-words : (u kind : ℕ) (U : Use) (inner : List Word) → useWords (shape w) ls p U ≡ record { at = p; is = u + kind } ∷ (inner ++ (record { at = p + u - w; is = u + kind } ∷ []))
+  part-words : (u kind : ℕ) (U : Use) (inner : List Word) → useWords (shape w) ls p U ≡ record { at = p; is = tagOf u kind } ∷ (inner ++ (record { at = farTagAt (shape w) p u; is = tagOf u kind } ∷ []))
       → lowWords w g u kind ++ (inner ++ highWords w g u kind) ≡ record { at = linkOf (shape w) prev; is = restAt (shape w) u s p next } ∷ (useWords (shape w) ls p U ++ restWords (shape w) u s p prev next)
   unfolding lowWords highWords freeWords own
   part-words u kind U inner eU =
       rw (r .link, r .at, r .size, r .next-is, r .prev-is, eU)
-      (ap (λ (l : List Word). record { at = linkOf (shape w) prev; is = restAt (shape w) u s p next } ∷ record { at = p; is = u + kind } ∷ l)
-      (sym (append-assoc inner (record { at = p + u - w; is = u + kind } ∷ []) (restWords (shape w) u s p prev next))))
+      (ap (λ (l : List Word). record { at = linkOf (shape w) prev; is = restAt (shape w) u s p next } ∷ record { at = p; is = tagOf u kind } ∷ l)
+      (sym (append-assoc inner (record { at = farTagAt (shape w) p u; is = tagOf u kind } ∷ []) (restWords (shape w) u s p prev next))))
 
   -- and they draw the layout with it
   pub part-drawn : (u kind : ℕ) (U : Use) (inner : List Word) → useSize (shape w) U ≡ u → u ≤ s
-      → useWords (shape w) ls p U ≡ record { at = p; is = u + kind } ∷ (inner ++ (record { at = p + u - w; is = u + kind } ∷ []))
+      → useWords (shape w) ls p U ≡ record { at = p; is = tagOf u kind } ∷ (inner ++ (record { at = farTagAt (shape w) p u; is = tagOf u kind } ∷ []))
       → Bytes b → length b ≤ shape w .most → Valid (shape w) end (three (shape w) ls pre (parts (shape w) u s U) post)
       → (h₁ h₂ h₃ : List ℕ) → h₁ ≡ draw w (lowWords w g u kind) b → h₂ ≡ draw w inner h₁ → h₃ ≡ putIf (shape w) (draw w (highWords w g u kind) h₂) (g .back .0) (restAt (shape w) u (g .size) (g .at .0) (g .prev .0))
       → h₃ ≡ draw w (words (shape w) end (three (shape w) ls pre (parts (shape w) u s U) post)) b
@@ -106,7 +106,7 @@ module _ {w : ℕ} (wd : Width w) {b : List ℕ} {end : ℕ} {ls : List (List �
   pub gap-room : GapRoom w b p
   gap-room =
       let e = size-there (shape w) m in
-      let f : wordAt w b (p + wordAt w b p - 2 * w) ≡ prev = rw e (prev-there (shape w) m) in
+      let f : wordAt w b (previousAt (shape w) p (wordAt w b p)) ≡ prev = rw e (prev-there (shape w) m) in
       record {
         width = wd;
         least = omega (arith, e, size-least (shape w) m);
@@ -137,12 +137,12 @@ module _ {w : ℕ} (wd : Width w) {b : List ℕ} {end : ℕ} {ls : List (List �
         }
 
     -- what a need takes of it has room
-    pub need-part : (need u kind n : ℕ) → need ≤ s → u ≡ takes (shape w) need (g .size) → n ≡ length b → length b + 3 < 2 ^ 64 → 2 * w ≤ need → kind ≤ 3 → PartRoom w n g u kind
+    pub need-part : (need u kind n : ℕ) → need ≤ s → u ≡ takes (shape w) need (g .size) → n ≡ length b → length b + pageKind < 2 ^ 64 → tags (shape w) ≤ need → kind ≤ pageKind → PartRoom w n g u kind
     need-part = part-need wd m s (ends-there (shape w) m) g gap-is
 
     -- and a block written in it draws the layout with that
     pub gap-drawn : (u kind : ℕ) (U : Use) (inner : List Word) → useSize (shape w) U ≡ u → u ≤ s
-        → useWords (shape w) ls p U ≡ record { at = p; is = u + kind } ∷ (inner ++ (record { at = p + u - w; is = u + kind } ∷ []))
+        → useWords (shape w) ls p U ≡ record { at = p; is = tagOf u kind } ∷ (inner ++ (record { at = farTagAt (shape w) p u; is = tagOf u kind } ∷ []))
         → Bytes b → length b ≤ shape w .most → Valid (shape w) end (three (shape w) ls pre (parts (shape w) u s U) post)
         → (h₁ h₂ h₃ : List ℕ) → h₁ ≡ draw w (lowWords w g u kind) b → h₂ ≡ draw w inner h₁ → h₃ ≡ putIf (shape w) (draw w (highWords w g u kind) h₂) (g .back .0) (restAt (shape w) u (g .size) (g .at .0) (g .prev .0))
         → h₃ ≡ draw w (words (shape w) end (three (shape w) ls pre (parts (shape w) u s U) post)) b

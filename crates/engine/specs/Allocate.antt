@@ -1,5 +1,5 @@
 -- What allocating promises, past the check: the rule's address and bytes.
-use Prim.Native.Nat.{ℕ, _≤_, _<_, _*_}
+use Prim.Native.Nat.{ℕ, _≤_, _<_}
 use mathlib.Core.Path.{_≡_}
 use mathlib.Core.List.{List, []}
 use mathlib.Core.Option.{Option, none, some}
@@ -16,7 +16,7 @@ use Rattle.engine.specs.declared.allocate.Taken.the-variants.{At, NoRoom
 -- and a class
 pub record ReadyClass (w : ℕ) (b : List ℕ) (c : ℕ) : Type 0 where
   pub ready : Ready w b
-  pub class : c < 4 * w
+  pub class : c < shape w .classes
 
 -- a size that may be asked for
 pub record Asked (w : ℕ) (n : ℕ) : Type 0 where
@@ -49,5 +49,5 @@ pub record GivesItem (w : ℕ) (b : List ℕ) (c : ℕ) (r : Taken) (a : List �
 pub record GivesBlock (w : ℕ) (b : List ℕ) (need : ℕ) (r : Taken) (a : List ℕ) : Type 0 where
   pub is : (L : Layout) → Here (shape w) b L → Gives w b L (aBlock (shape w) need L (fit need (L .blocks))) r a
 
-pub record Allocates (w : ℕ) (b : List ℕ) (n : ℕ) (r : Taken) (a : List ℕ) : Type 0 where
+pub record GivesSize (w : ℕ) (b : List ℕ) (n : ℕ) (r : Taken) (a : List ℕ) : Type 0 where
   pub is : (L : Layout) → Here (shape w) b L → Gives w b L (allocate (shape w) n L) r a

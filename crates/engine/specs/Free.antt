@@ -20,7 +20,7 @@ freedBytes w b L nothing = b
 freedBytes w b L (block t) = drawn (shape w) (freed (shape w) (block t) L) b
 freedBytes w b L (thing o c) = drawn (shape w) (freed (shape w) (thing o c) L) b
 
-pub record Freed (w : ℕ) (b : List ℕ) (a : ℕ) (r : Bool) (c : List ℕ) : Type 0 where
+pub record GivesBack (w : ℕ) (b : List ℕ) (a : ℕ) (r : Bool) (c : List ℕ) : Type 0 where
   pub answer : (L : Layout) → Here (shape w) b L → r ≡ isFound (find (shape w) a L)
   pub bytes : (L : Layout) → Here (shape w) b L → c ≡ freedBytes w b L (find (shape w) a L)
   pub sound : Sound (shape w) c

@@ -1,11 +1,12 @@
 -- What taking and giving back an item asks and promises.
-use Prim.Native.Nat.{ℕ, _+_, _*_, _≤_, _<_}
+use Prim.Native.Nat.{ℕ, _≤_, _<_}
 use mathlib.Core.Path.{_≡_}
 use mathlib.Core.List.{List, [], _∷_}
 use lib.ListN.{length, getD}
 use Rattle.words.specs.Width.{Width}
 use Rattle.words.specs.Word.{wordAt}
-use Rattle.model.specs.Shape.{shape, addressOf, itemAt, offsetOf, index, start}
+use Rattle.model.specs.Shape.{shape, addressOf, itemAt, offsetOf, index}
+use Rattle.model.specs.Parts.{headAt}
 use Rattle.model.specs.Layout.{Layout}
 use Rattle.model.specs.Sound.{Here, Sound}
 use Rattle.model.specs.Rules.{popped, thing, find, freed}
@@ -15,9 +16,9 @@ use Rattle.model.specs.Calls.{drawn}
 pub record HasItem (w : ℕ) (b : List ℕ) (c : ℕ) : Type 0 where
   pub width : Width w
   pub sound : Sound (shape w) b
-  pub class : c < 4 * w
+  pub class : c < shape w .classes
   pub short : length b ≤ shape w .most
-  pub some-item : wordAt w b (index (shape w) + w * c) ≡ 0 → ⊥
+  pub some-item : wordAt w b (headAt (shape w) c) ≡ 0 → ⊥
 
 -- the address of the item that was first on the list, and the heap with it in use
 pub record TookItem (w : ℕ) (b : List ℕ) (c r : ℕ) (a : List ℕ) : Type 0 where

@@ -5,7 +5,8 @@ use mathlib.Core.List.{List}
 use lib.ListN.{length}
 use Rattle.words.specs.Width.{Width}
 use Rattle.words.specs.Word.{wordAt}
-use Rattle.model.specs.Shape.{shape, itemSize, pageNeed, index, start}
+use Rattle.model.specs.Shape.{shape, itemSize, pageNeed, index}
+use Rattle.model.specs.Parts.{headAt}
 use Rattle.model.specs.Layout.{Layout}
 use Rattle.model.specs.Rules.{Spot, paged}
 use Rattle.model.specs.Calls.{drawn}
@@ -14,7 +15,7 @@ use Rattle.model.specs.inner.Walks.{SpotIn}
 -- a page's items of class c have room from p on, within n bytes
 pub record ItemsRoom (w : ℕ) (n c p : ℕ) : Type 0 where
   pub width : Width w
-  pub class : c < 4 * w
+  pub class : c < shape w .classes
   pub low : index (shape w) ≤ p
   pub inside : p + shape w .perPage c * itemSize (shape w) c ≤ n
   pub short : n ≤ shape w .most
@@ -22,9 +23,9 @@ pub record ItemsRoom (w : ℕ) (n c p : ℕ) : Type 0 where
 -- there is no item of class c on its list
 pub record NoItem (w : ℕ) (b : List ℕ) (c : ℕ) : Type 0 where
   pub width : Width w
-  pub class : c < 4 * w
+  pub class : c < shape w .classes
   pub short : length b ≤ shape w .most
-  pub none : wordAt w b (index (shape w) + w * c) ≡ 0
+  pub none : wordAt w b (headAt (shape w) c) ≡ 0
 
 -- the heap after a page was made
 pub record MadePage (w : ℕ) (b : List ℕ) (p c : ℕ) (a : List ℕ) : Type 0 where

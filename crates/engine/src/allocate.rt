@@ -6,12 +6,13 @@ use model::Address;
 use model::address_of;
 use model::class_of;
 use model::head_at;
+use model::largest_item;
 use model::need_of;
 use model::page_need;
 use words::word;
 ghost use lib.ListN.{length};
 ghost use Rattle.engine.specs.Blocks.{Needed};
-ghost use Rattle.engine.specs.Allocate.{ReadyClass, Asked, GivesItem, GivesBlock, Allocates};
+ghost use Rattle.engine.specs.Allocate.{ReadyClass, Asked, GivesItem, GivesBlock, GivesSize};
 ghost use Rattle.engine.specs.Ready.{Ready};
 
 // What an allocation finds: the address of a payload, or no room.
@@ -25,7 +26,7 @@ fn an_item(w: usize, h: &mut [u8], c: usize) -> Taken
     requires { ⌜ ReadyClass w (now h) c ⌝ }
     ensures { λ r. ⌜ GivesItem w (now (h .entry)) c r (now (h .exit)) ⌝ }
 {
-    if word(w, h, head_at(w, c)) != 0 {
+    if word(w, h, head_at(w, c).0) != 0 {
         return Taken::At(items::take(w, h, c));
     }
     let p = blocks::find_fit(w, h, page_need(w, c));
@@ -54,9 +55,9 @@ fn a_block(w: usize, h: &mut [u8], need: usize) -> Taken
 pub fn allocate(w: usize, h: &mut [u8], n: usize) -> Taken
     requires { ⌜ Ready w (now h) ⌝ }
     requires { ⌜ Asked w n ⌝ }
-    ensures { λ r. ⌜ Allocates w (now (h .entry)) n r (now (h .exit)) ⌝ }
+    ensures { λ r. ⌜ GivesSize w (now (h .entry)) n r (now (h .exit)) ⌝ }
 {
-    if n <= 32 * w {
+    if n <= largest_item(w) {
         return an_item(w, h, class_of(n));
     }
     a_block(w, h, need_of(w, n))

@@ -4,14 +4,20 @@ use links::link_at;
 use links::put_free;
 use links::put_if;
 use model::Position;
-use model::first_free;
+use model::VARIABLE;
+use model::far_tag_at;
+use model::first_free_at;
+use model::least_free;
+use model::next_at;
+use model::previous_at;
+use model::tag_of;
 use words::put_word;
 use words::word;
 ghost use mathlib.Core.Path.{_≡_};
-ghost use Prim.Native.Nat.{_+_, _*_, _<_, _^_};
+ghost use Prim.Native.Nat.{_+_, _<_, _^_};
 ghost use lib.ListN.{length};
 ghost use Rattle.words.specs.Width.{Width};
-ghost use Rattle.model.specs.Shape.{shape};
+ghost use Rattle.model.specs.Shape.{shape, leastFree};
 ghost use Rattle.model.specs.Picture.{draw};
 ghost use Rattle.model.specs.Layout.{Layout};
 ghost use Rattle.model.specs.Sound.{Here, Sound};
@@ -35,13 +41,13 @@ pub fn find_fit(w: usize, h: &[u8], need: usize) -> Position
     requires { ⌜ Width w × Sound (shape w) (now h) ⌝ }
     ensures { λ r. ⌜ ((L : Layout) → Here (shape w) (now (h .entry)) L → r .0 ≡ foundAt (shape w) (fit need (L .blocks))) ⌝ }
 {
-    let mut p = Position(word(w, h, first_free(w)));
+    let mut p = Position(word(w, h, first_free_at(w).0));
     while p.0 != 0 {
         let s = word(w, h, p.0);
         if need <= s {
             return p;
         }
-        p = Position(word(w, h, p.0 + w));
+        p = Position(word(w, h, next_at(w, p).0));
     }
     Position(0)
 }
@@ -52,8 +58,8 @@ pub fn read(w: usize, h: &[u8], p: Position) -> Gap
     ensures { λ r. ⌜ GapRead w (now (h .entry)) (p .0) r ⌝ }
 {
     let size = word(w, h, p.0);
-    let next = Position(word(w, h, p.0 + w));
-    let prev = Position(word(w, h, p.0 + size - 2 * w));
+    let next = Position(word(w, h, next_at(w, p).0));
+    let prev = Position(word(w, h, previous_at(w, p, size).0));
     let link = link_at(w, prev);
     let back = back_at(w, h, next);
     Gap {
@@ -68,10 +74,10 @@ pub fn read(w: usize, h: &[u8], p: Position) -> Gap
 
 // What a block in use takes of a free block of size s: its need, or the whole where too little would remain.
 pub fn taken(w: usize, need: usize, s: usize) -> usize
-    requires { ⌜ Width w × (need + 4 * w < 2 ^ 64) ⌝ }
+    requires { ⌜ Width w × (need + leastFree (shape w) < 2 ^ 64) ⌝ }
     ensures { λ r. ⌜ r ≡ takes (shape w) need s ⌝ }
 {
-    if need + 4 * w <= s { need } else { s }
+    if need + least_free(w) <= s { need } else { s }
 }
 
 // The first words of a block in use of size u and of the given kind in the gap: the link past it, and its tag.
@@ -79,9 +85,13 @@ pub fn put_low(w: usize, h: &mut [u8], g: Gap, u: usize, kind: usize)
     requires { ⌜ PartRoom w (length (now h)) g u kind ⌝ }
     ensures { λ _. ⌜ now (h .exit) ≡ draw w (lowWords w g u kind) (now (h .entry)) ⌝ }
 {
-    let first = if u < g.size { g.at.0 + u } else { g.next.0 };
-    put_word(w, h, g.link.0, first);
-    put_word(w, h, g.at.0, u + kind);
+    let first = if u < g.size {
+        Position(g.at.0 + u)
+    } else {
+        g.next
+    };
+    put_word(w, h, g.link.0, first.0);
+    put_word(w, h, g.at.0, tag_of(u, kind));
 }
 
 // Its last words: its far tag, the free rest, and the link back past it.
@@ -90,7 +100,7 @@ pub fn put_high(w: usize, h: &mut [u8], g: Gap, u: usize, kind: usize)
     ensures { λ _. ⌜ now (h .exit) ≡ putIf (shape w) (draw w (highWords w g u kind) (now (h .entry))) (g .back .0) (restAt (shape w) u (g .size) (g .at .0) (g .prev .0)) ⌝ }
 {
     let q = Position(g.at.0 + u);
-    put_word(w, h, q.0 - w, u + kind);
+    put_word(w, h, far_tag_at(w, g.at, u).0, tag_of(u, kind));
     if u < g.size {
         put_free(w, h, q, g.size - u, g.prev, g.next);
         put_if(w, h, g.back, q);
@@ -107,6 +117,6 @@ pub fn take(w: usize, h: &mut [u8], p: Position, need: usize)
 {
     let g = read(w, h, p);
     let u = taken(w, need, g.size);
-    put_low(w, h, g, u, 2);
-    put_high(w, h, g, u, 2);
+    put_low(w, h, g, u, VARIABLE);
+    put_high(w, h, g, u, VARIABLE);
 }

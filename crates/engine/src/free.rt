@@ -4,13 +4,13 @@ use crate::release::release;
 use find::Live;
 use find::find;
 use model::Address;
-ghost use Rattle.engine.specs.Free.{Freed};
+ghost use Rattle.engine.specs.Free.{GivesBack};
 ghost use Rattle.engine.specs.Ready.{Ready};
 
 // Gives back what is live at a: true; or false where nothing is, and nothing changes.
 pub fn free(w: usize, h: &mut [u8], a: Address) -> bool
     requires { ⌜ Ready w (now h) ⌝ }
-    ensures { λ r. ⌜ Freed w (now (h .entry)) (a .0) r (now (h .exit)) ⌝ }
+    ensures { λ r. ⌜ GivesBack w (now (h .entry)) (a .0) r (now (h .exit)) ⌝ }
 {
     let x = find(w, h, a);
     match x {

@@ -3,8 +3,11 @@ use model::Address;
 use model::ItemOffset;
 use model::Position;
 use model::address_of;
+use model::free_header;
 use model::head_at;
+use model::held_header;
 use model::item_at;
+use model::next_in;
 use model::offset_of;
 use words::put_word;
 use words::word;
@@ -16,13 +19,11 @@ pub fn take(w: usize, h: &mut [u8], c: usize) -> Address
     ensures { λ r. ⌜ TookItem w (now (h .entry)) c (r .0) (now (h .exit)) ⌝ }
 {
     let head = head_at(w, c);
-    let o = word(w, h, head);
-    let q = item_at(w, ItemOffset(o));
-    let at = q.0;
-    let x = word(w, h, at);
-    let next = (x - (4 * c + 1)) / 16;
-    put_word(w, h, head, next);
-    put_word(w, h, at, 4 * c + 3);
+    let o = ItemOffset(word(w, h, head.0));
+    let q = item_at(w, o);
+    let next = next_in(w, word(w, h, q.0));
+    put_word(w, h, head.0, next.0);
+    put_word(w, h, q.0, held_header(c));
     address_of(w, q)
 }
 
@@ -31,10 +32,8 @@ pub fn give(w: usize, h: &mut [u8], q: Position, c: usize)
     requires { ⌜ ItemLive w (now h) (q .0) c ⌝ }
     ensures { λ _. ⌜ GaveItem w (now (h .entry)) (q .0) c (now (h .exit)) ⌝ }
 {
-    let at = q.0;
     let head = head_at(w, c);
-    let o = offset_of(w, q);
-    let first = word(w, h, head);
-    put_word(w, h, head, o.0);
-    put_word(w, h, at, 16 * first + 4 * c + 1);
+    let first = ItemOffset(word(w, h, head.0));
+    put_word(w, h, head.0, offset_of(w, q).0);
+    put_word(w, h, q.0, free_header(c, first));
 }

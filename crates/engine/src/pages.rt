@@ -3,7 +3,11 @@ use crate::blocks::put_high;
 use crate::blocks::put_low;
 use crate::blocks::read;
 use crate::blocks::taken;
+use model::PAGE;
 use model::Position;
+use model::first_item_at;
+use model::free_header;
+use model::free_mark;
 use model::head_at;
 use model::item_size;
 use model::items_in_page;
@@ -28,11 +32,11 @@ fn link_items(w: usize, h: &mut [u8], c: usize, p: Position)
     let mut at = p;
     while 1 < left {
         let next = Position(at.0 + size);
-        put_word(w, h, at.0, 16 * offset_of(w, next).0 + 4 * c + 1);
+        put_word(w, h, at.0, free_header(c, offset_of(w, next)));
         at = next;
         left -= 1;
     }
-    put_word(w, h, at.0, 4 * c + 1);
+    put_word(w, h, at.0, free_mark(c));
 }
 
 // A page of class c, whose list is empty, is made of the free block at p.
@@ -41,11 +45,11 @@ pub fn make(w: usize, h: &mut [u8], p: Position, c: usize)
     requires { ⌜ NoItem w (now h) c ⌝ }
     ensures { λ _. ⌜ MadePage w (now (h .entry)) (p .0) c (now (h .exit)) ⌝ }
 {
-    let first = Position(p.0 + w);
-    put_word(w, h, head_at(w, c), offset_of(w, first).0);
+    let first = first_item_at(w, p);
+    put_word(w, h, head_at(w, c).0, offset_of(w, first).0);
     let g = read(w, h, p);
     let u = taken(w, page_need(w, c), g.size);
-    put_low(w, h, g, u, 3);
+    put_low(w, h, g, u, PAGE);
     link_items(w, h, c, first);
-    put_high(w, h, g, u, 3);
+    put_high(w, h, g, u, PAGE);
 }

@@ -1,5 +1,5 @@
 -- What the calls on links ask, and a free block's words.
-use Prim.Native.Nat.{ℕ, _+_, _-_, _*_, _^_, _≤_, _<_}
+use Prim.Native.Nat.{ℕ, _+_, _-_, _^_, _≤_, _<_}
 use mathlib.Core.Path.{_≡_}
 use mathlib.Core.List.{List, [], _∷_}
 use lib.ListN.{length}
@@ -32,7 +32,7 @@ pub record LinkRoom (w : ℕ) (b : List ℕ) (from to before behind : ℕ) : Typ
   pub least : from + leastFree (shape w) ≤ to
   pub inside : to ≤ length b
   pub linked : linkOf (shape w) before + w ≤ length b
-  pub before-fits : before + w < 2 ^ 64
+  pub before-fits : nextAt (shape w) before < 2 ^ 64
   pub back : BackRoom w b behind
   pub behind-inside : backOf (shape w) b behind + w ≤ length b
 

@@ -7,17 +7,18 @@ use model::previous_at;
 use words::put_word;
 use words::word;
 ghost use mathlib.Core.Path.{_≡_};
-ghost use Prim.Native.Nat.{_+_, _*_, _<_, _≤_, _^_};
+ghost use Prim.Native.Nat.{_+_, _<_, _≤_, _^_};
 ghost use lib.ListN.{length};
 ghost use Rattle.words.specs.Width.{Width};
 ghost use Rattle.model.specs.Shape.{shape};
+ghost use Rattle.model.specs.Parts.{nextAt};
 ghost use Rattle.model.specs.Picture.{draw};
 ghost use Rattle.model.specs.inner.Links.{linkOf, backOf, putIf};
 ghost use Rattle.links.specs.Links.{BackRoom, FreeRoom, LinkRoom, freeWords, linkedBytes};
 
 // Where the link to what follows the free block at prev stands: in that block, or in the header where prev is 0.
 pub fn link_at(w: usize, prev: Position) -> Position
-    requires { ⌜ Width w × (prev .0 + w < 2 ^ 64) ⌝ }
+    requires { ⌜ Width w × (nextAt (shape w) (prev .0) < 2 ^ 64) ⌝ }
     ensures { λ r. ⌜ r .0 ≡ linkOf (shape w) (prev .0) ⌝ }
 {
     if prev.0 == 0 {

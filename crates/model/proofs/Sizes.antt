@@ -6,6 +6,7 @@ use native.Mathlib.Omega.{arith}
 use Rattle.words.specs.Width.{Width}
 use Rattle.words.proofs.WidthLaws.{widths}
 use Rattle.model.specs.Shape.{shape, start, index, leastVariable, needOf, itemSize, pageNeed}
+use Rattle.model.specs.Parts.{freeHeader, nextIn}
 
 -- document 01's word, and the hand unit's
 pub eight : Width 8
@@ -60,6 +61,9 @@ module _ {w : ℕ} (k : Width w) (p : ℕ) where
 module _ {w : ℕ} (k : Width w) (c n : ℕ) (few : c < 4 * w) where
   pub class-idle : n % w ≡ 0 → (16 * n + 4 * c + 1) % (16 * w) / 4 ≡ c
   class-idle = widths (λ w. c < 4 * w → n % w ≡ 0 → (16 * n + 4 * c + 1) % (16 * w) / 4 ≡ c) (omega arith) (omega arith) w k few
+
+  pub next-idle : n % w ≡ 0 → nextIn (shape w) (freeHeader c n) ≡ n
+  next-idle = widths (λ w. c < 4 * w → n % w ≡ 0 → nextIn (shape w) (freeHeader c n) ≡ n) (omega arith) (omega arith) w k few
 
   pub class-held : (4 * c + 3) % (16 * w) / 4 ≡ c
   class-held = widths (λ w. c < 4 * w → (4 * c + 3) % (16 * w) / 4 ≡ c) (omega arith) (omega arith) w k few

@@ -1,6 +1,5 @@
 use borrow.Author.Tests.{eq-eqb, ne-eqb}
 use native.Mathlib.Omega.{arith}
-use borrow.Author.Needs.{needs}
 use Rattle.links.proofs.back_at.Statement.{statement}
 use Rattle.links.proofs.back_at.Tie as tie
 use Rattle.links.proofs.back_at.Reads as reads

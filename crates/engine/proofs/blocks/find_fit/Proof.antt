@@ -11,7 +11,8 @@ use Rattle.engine.proofs.blocks.find_fit.Statement.{statement}
 use Rattle.engine.proofs.blocks.find_fit.Tie as tie
 use Rattle.engine.proofs.blocks.find_fit.Reads as reads
 use Rattle.engine.proofs.blocks.find_fit.Lts as lts
-use Rattle.model.proofs.first_free.Reads as first-free-reads
+use Rattle.model.proofs.first_free_at.Reads as first-free-at-reads
+use Rattle.model.proofs.next_at.Reads as next-at-reads
 use Rattle.words.proofs.word.Reads as word-reads
 
 abbrev Inv-loop : tie.InvT-loop
@@ -20,8 +21,8 @@ Inv-loop w h need p₀ p = (L : Layout) → Here (shape w) h L → Walk (shape w
 abbrev μ-loop : tie.MeasureT-loop
 μ-loop w h need p₀ p = left (length h) (p .0)
 
-first-free-requires : tie.Need-first-free-requires Inv-loop μ-loop
-first-free-requires c κs = search needs
+first-free-at-requires : tie.Need-first-free-at-requires Inv-loop μ-loop
+first-free-at-requires c κs = search needs
 
 word-requires : tie.Need-word-requires Inv-loop μ-loop
 word-requires c κs = omega (arith, here-room (shape (c .before .before .args .w)) (c .before .before .args .h .now) (c .before .before .pre .1 .layout) (c .before .before .pre .1 .here))
@@ -30,7 +31,7 @@ loop-holds : tie.Need-loop-holds Inv-loop μ-loop
 loop-holds c L h =
     let b = c .before .before .before .args .h .now in
     let need = c .before .before .before .args .need in
-    rw (c .word .ensures, c .before .first-free .ensures, first-read (shape (c .before .before .before .args .w)) b L h) (begin (shape (c .before .before .before .args .w)) b need L h)
+    rw (c .word .ensures, c .before .first-free-at .ensures, first-read (shape (c .before .before .before .args .w)) b L h) (begin (shape (c .before .before .before .args .w)) b need L h)
 
 -- the block that the walk stands at
 stands : (c : tie.Then1 Inv-loop μ-loop) (L : Layout) → Here (shape (c .before .before .before .before .before .before .args .w)) (c .before .before .before .before .before .before .args .h .now) L
@@ -54,8 +55,8 @@ returns c L h =
     let a = stands d L h in
     sym (hit (shape (d .before .before .before .before .before .before .args .w)) b need L (start (shape (d .before .before .before .before .before .before .args .w))) (d .before .before .loop .p .0) a (omega (arith, c .if2 .taken, c .before .word2 .ensures, size-read (shape (d .before .before .before .before .before .before .args .w)) b need L (start (shape (d .before .before .before .before .before .before .args .w))) (d .before .before .loop .p .0) a)))
 
-add-word : tie.Need-add-word Inv-loop μ-loop
-add-word c = omega (arith, within (c .before .before .before))
+next-at-requires : tie.Need-next-at-requires Inv-loop μ-loop
+next-at-requires c κs = omega (arith, within (c .before .before))
 
 word-requires-3 : tie.Need-word-requires-3 Inv-loop μ-loop
 word-requires-3 c κs = omega (arith, within (c .before .before .before))
@@ -69,7 +70,7 @@ goes c L h =
     let need = d .before .before .before .before .before .before .args .need in
     let p = d .before .before .loop .p .0 in
     let a = stands d L h in
-    rw (c .word3 .ensures, next-read (shape (d .before .before .before .before .before .before .args .w)) b need L (start (shape (d .before .before .before .before .before .before .args .w))) p a) (miss (shape (d .before .before .before .before .before .before .args .w)) b need L (start (shape (d .before .before .before .before .before .before .args .w))) p a (omega (arith, c .before .before .if2 .left, c .before .before .before .word2 .ensures, size-read (shape (d .before .before .before .before .before .before .args .w)) b need L (start (shape (d .before .before .before .before .before .before .args .w))) p a)))
+    rw (c .word3 .ensures, c .before .next-at .ensures, next-read (shape (d .before .before .before .before .before .before .args .w)) b need L (start (shape (d .before .before .before .before .before .before .args .w))) p a) (miss (shape (d .before .before .before .before .before .before .args .w)) b need L (start (shape (d .before .before .before .before .before .before .args .w))) p a (omega (arith, c .before .before .if2 .left, c .before .before .before .word2 .ensures, size-read (shape (d .before .before .before .before .before .before .args .w)) b need L (start (shape (d .before .before .before .before .before .before .args .w))) p a)))
 
 loop-less : tie.Need-loop-less Inv-loop μ-loop
 loop-less c =
@@ -97,12 +98,12 @@ find-fit-spec =
     (tie.spec
     Inv-loop
     μ-loop
-    first-free-requires
+    first-free-at-requires
     word-requires
     loop-holds
     word-requires-2
     returns
-    add-word
+    next-at-requires
     word-requires-3
     loop-less
     loop-again

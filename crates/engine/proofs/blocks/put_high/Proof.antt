@@ -12,11 +12,11 @@ use Rattle.words.proofs.put_word.Reads as put-word-reads
 add-put-word : tie.Need-add-put-word
 add-put-word c = search needs
 
-sub-put-word : tie.Need-sub-put-word
-sub-put-word c = search needs
+far-tag-at-requires : tie.Need-far-tag-at-requires
+far-tag-at-requires c κs = search needs
 
-add-put-word-2 : tie.Need-add-put-word-2
-add-put-word-2 c = search needs
+tag-of-requires : tie.Need-tag-of-requires
+tag-of-requires c κs = search needs
 
 put-word-requires : tie.Need-put-word-requires
 put-word-requires c κs = search needs
@@ -25,7 +25,7 @@ sub-put-free : tie.Need-sub-put-free
 sub-put-free c = search needs
 
 put-free-requires : tie.Need-put-free-requires
-put-free-requires c κs = record { width = search needs; least = omega (arith, c .before .before .before .before .before .before .before .before .before .before .before .pre .rest (c .before .before .if1 .taken)); inside = search needs }
+put-free-requires c κs = record { width = search needs; least = omega (arith, c .before .before .before .before .before .before .before .before .before .before .before .before .pre .rest (c .before .before .if1 .taken)); inside = search needs }
 
 put-if-requires : tie.Need-put-if-requires
 put-if-requires c κs = search needs
@@ -37,21 +37,21 @@ same-length : tie.Need-same-length
 same-length c = search needs
 
 returns : tie.Need-returns
-returns c = high-rest (c .before .before .before .before .before .before .before .before .before .before .before .before .before .before .before .before .before .before .args .w) (c .before .before .before .before .before .before .before .before .before .before .before .before .before .before .before .before .before .before .args .g) (c .before .before .before .before .before .before .before .before .before .before .before .before .before .before .before .before .before .before .args .u) (c .before .before .before .before .before .before .before .before .before .before .before .before .before .before .before .before .before .before .args .kind) _ (c .before .before .before .before .before .before .before .before .before .if1 .taken) _ _ _ (c .before .before .before .before .before .before .before .before .before .before .before .before .before .put-word .ensures) (c .before .before .before .before .before .before .put-free .ensures) (c .before .before .put-if .ensures)
+returns c = high-rest (c .before .before .before .before .before .before .before .before .before .before .before .before .before .before .before .before .before .before .before .args .w) (c .before .before .before .before .before .before .before .before .before .before .before .before .before .before .before .before .before .before .before .args .g) (c .before .before .before .before .before .before .before .before .before .before .before .before .before .before .before .before .before .before .before .args .u) (c .before .before .before .before .before .before .before .before .before .before .before .before .before .before .before .before .before .before .before .args .kind) _ (c .before .before .before .before .before .before .before .before .before .if1 .taken) _ _ _ (rw (c .before .before .before .before .before .before .before .before .before .before .before .before .before .before .before .far-tag-at .ensures, c .before .before .before .before .before .before .before .before .before .before .before .before .before .before .tag-of .ensures) at (c .before .before .before .before .before .before .before .before .before .before .before .before .before .put-word .ensures)) (c .before .before .before .before .before .before .put-free .ensures) (c .before .before .put-if .ensures)
 
 same-length-2 : tie.Need-same-length-2
 same-length-2 c = search needs
 
 returns-2 : tie.Need-returns-2
-returns-2 c = high-whole (c .before .before .before .before .before .before .before .before .before .before .before .before .before .args .w) (c .before .before .before .before .before .before .before .before .before .before .before .before .before .args .g) (c .before .before .before .before .before .before .before .before .before .before .before .before .before .args .u) (c .before .before .before .before .before .before .before .before .before .before .before .before .before .args .kind) _ (c .before .before .before .before .if1 .left) _ _ (c .before .before .before .before .before .before .before .before .put-word .ensures) (c .before .before .put-if2 .ensures)
+returns-2 c = high-whole (c .before .before .before .before .before .before .before .before .before .before .before .before .before .before .args .w) (c .before .before .before .before .before .before .before .before .before .before .before .before .before .before .args .g) (c .before .before .before .before .before .before .before .before .before .before .before .before .before .before .args .u) (c .before .before .before .before .before .before .before .before .before .before .before .before .before .before .args .kind) _ (c .before .before .before .before .if1 .left) _ _ (rw (c .before .before .before .before .before .before .before .before .before .before .far-tag-at .ensures, c .before .before .before .before .before .before .before .before .before .tag-of .ensures) at (c .before .before .before .before .before .before .before .before .put-word .ensures)) (c .before .before .put-if2 .ensures)
 
 pub put-high-spec : {M : Type 1} → statement M
 put-high-spec =
     tie.close
     (tie.spec
     add-put-word
-    sub-put-word
-    add-put-word-2
+    far-tag-at-requires
+    tag-of-requires
     put-word-requires
     sub-put-free
     put-free-requires

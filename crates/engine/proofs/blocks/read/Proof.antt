@@ -1,3 +1,4 @@
+use mathlib.Core.Path.{refl}
 use native.Mathlib.Omega.{arith}
 use borrow.Author.Needs.{needs}
 use Rattle.engine.proofs.blocks.read.Statement.{statement}
@@ -11,43 +12,35 @@ use Rattle.words.proofs.word.Reads as word-reads
 word-requires : tie.Need-word-requires
 word-requires c κs = search needs
 
-add-word : tie.Need-add-word
-add-word c = search needs
+next-at-requires : tie.Need-next-at-requires
+next-at-requires c κs = search needs
 
 word-requires-2 : tie.Need-word-requires-2
 word-requires-2 c κs = search needs
 
-add-word-2 : tie.Need-add-word-2
-add-word-2 c = search needs
-
-mul-word : tie.Need-mul-word
-mul-word c = search needs
-
-sub-word : tie.Need-sub-word
-sub-word c = search needs
+previous-at-requires : tie.Need-previous-at-requires
+previous-at-requires c κs = search needs
 
 word-requires-3 : tie.Need-word-requires-3
 word-requires-3 c κs = search needs
 
 link-at-requires : tie.Need-link-at-requires
-link-at-requires c κs = omega (arith, rw (c .before .before .before .before .word .ensures) at (c .word3 .ensures), c .before .before .before .before .before .before .pre .prev-low, c .before .before .before .before .before .before .good .0 .1)
+link-at-requires c κs = omega (arith, rw (c .before .previous-at .ensures, c .before .before .before .before .word .ensures) at (c .word3 .ensures), c .before .before .before .before .before .before .pre .prev-low, c .before .before .before .before .before .before .good .0 .1)
 
 back-at-requires : tie.Need-back-at-requires
-back-at-requires c κs = rw (c .before .before .before .word2 .ensures) (c .before .before .before .before .before .before .before .pre .behind)
+back-at-requires c κs = rw (c .before .before .before .word2 .ensures, c .before .before .before .before .next-at .ensures) (c .before .before .before .before .before .before .before .pre .behind)
 
 returns : tie.Need-returns
-returns c = search needs
+returns c = record { at = refl; size = c .before .before .before .before .before .before .word .ensures; next = rw (c .before .before .before .before .before .next-at .ensures) at (c .before .before .before .before .word2 .ensures); prev = rw (c .before .before .before .previous-at .ensures) at (c .before .before .word3 .ensures); link = c .before .link-at .ensures; back = c .back-at .ensures }
 
 pub read-spec : {M : Type 1} → statement M
 read-spec =
     tie.close
     (tie.spec
     word-requires
-    add-word
+    next-at-requires
     word-requires-2
-    add-word-2
-    mul-word
-    sub-word
+    previous-at-requires
     word-requires-3
     link-at-requires
     back-at-requires

@@ -7,17 +7,23 @@ use Rattle.engine.proofs.blocks.taken.Tie as tie
 use Rattle.engine.proofs.blocks.taken.Reads as reads
 use Rattle.engine.proofs.blocks.taken.Lts as lts
 
-mul-if1 : tie.Need-mul-if1
-mul-if1 c = search needs
+least-free-requires : tie.Need-least-free-requires
+least-free-requires c κs = search needs
 
 add-if1 : tie.Need-add-if1
 add-if1 c = search needs
 
 returns : tie.Need-returns
-returns c = takes-low (shape (c .before .args .w)) _ _ (omega arith)
+returns c = takes-low (shape (c .before .before .args .w)) _ _ (omega arith)
 
 returns-2 : tie.Need-returns-2
-returns-2 c = takes-whole (shape (c .before .args .w)) _ _ (omega arith)
+returns-2 c = takes-whole (shape (c .before .before .args .w)) _ _ (omega arith)
 
 pub taken-spec : {M : Type 1} → statement M
-taken-spec = tie.close (tie.spec mul-if1 add-if1 returns returns-2)
+taken-spec =
+    tie.close
+    (tie.spec
+    least-free-requires
+    add-if1
+    returns
+    returns-2)

@@ -1,7 +1,7 @@
 use Rattle.engine.proofs.GiveLaws.{give-at, give-first}
 use Rattle.model.proofs.Sizes.{most-bound}
 use native.Mathlib.Omega.{arith}
-use Rattle.engine.proofs.GiveLaws.{give-numbers, give-law}
+use Rattle.engine.proofs.GiveLaws.{give-numbers}
 use borrow.Author.Needs.{needs}
 use Rattle.engine.proofs.items.give.Statement.{statement}
 use Rattle.engine.proofs.items.give.Tie as tie
@@ -19,44 +19,32 @@ offset-of-requires : tie.Need-offset-of-requires
 offset-of-requires c κs = search needs
 
 word-requires : tie.Need-word-requires
-word-requires c κs = omega (arith, most-bound (c .before .before .before .before .pre .width), give-numbers _ _ _ (c .before .before .before .before .pre))
+word-requires c κs = omega (arith, most-bound (c .before .before .before .pre .width), give-numbers _ _ _ (c .before .before .before .pre))
 
 put-word-requires : tie.Need-put-word-requires
 put-word-requires c κs = omega (arith, most-bound (c .before .before .before .before .before .before .pre .width), give-numbers _ _ _ (c .before .before .before .before .before .before .pre))
 
-mul-put-word : tie.Need-mul-put-word
-mul-put-word c = omega (arith, most-bound (c .before .before .before .before .before .before .before .before .before .before .pre .width), give-numbers _ _ _ (c .before .before .before .before .before .before .before .before .before .before .pre) .class, give-first _ _ _ (c .before .before .before .before .before .before .before .before .before .before .pre) (c .before .before .before .before .before .before .before .before .head-at .result) (c .before .before .before .before .before .word .result) (c .before .before .before .before .before .before .before .before .head-at .ensures .0) (c .before .before .before .before .before .word .ensures))
-
-mul-put-word-2 : tie.Need-mul-put-word-2
-mul-put-word-2 c = omega (arith, most-bound (c .before .before .before .before .before .before .before .before .before .before .pre .width), give-numbers _ _ _ (c .before .before .before .before .before .before .before .before .before .before .pre))
-
-add-put-word : tie.Need-add-put-word
-add-put-word c = omega (arith, most-bound (c .before .before .before .before .before .before .before .before .before .before .pre .width), give-numbers _ _ _ (c .before .before .before .before .before .before .before .before .before .before .pre) .class, give-first _ _ _ (c .before .before .before .before .before .before .before .before .before .before .pre) (c .before .before .before .before .before .before .before .before .head-at .result) (c .before .before .before .before .before .word .result) (c .before .before .before .before .before .before .before .before .head-at .ensures .0) (c .before .before .before .before .before .word .ensures))
-
-add-put-word-2 : tie.Need-add-put-word-2
-add-put-word-2 c = omega (arith, most-bound (c .before .before .before .before .before .before .before .before .before .before .pre .width), give-numbers _ _ _ (c .before .before .before .before .before .before .before .before .before .before .pre) .class, give-first _ _ _ (c .before .before .before .before .before .before .before .before .before .before .pre) (c .before .before .before .before .before .before .before .before .head-at .result) (c .before .before .before .before .before .word .result) (c .before .before .before .before .before .before .before .before .head-at .ensures .0) (c .before .before .before .before .before .word .ensures))
+free-header-requires : tie.Need-free-header-requires
+free-header-requires c κs = omega (arith, most-bound (c .before .before .before .before .before .before .before .before .before .before .pre .width), give-numbers _ _ _ (c .before .before .before .before .before .before .before .before .before .before .pre) .class, give-first _ _ _ (c .before .before .before .before .before .before .before .before .before .before .pre) (c .before .before .before .before .before .before .before .before .head-at .result .0) (c .before .before .before .before .before .before .word .result) (c .before .before .before .before .before .before .before .before .head-at .ensures .0) (c .before .before .before .before .before .before .word .ensures))
 
 put-word-requires-2 : tie.Need-put-word-requires-2
-put-word-requires-2 c κs = omega (arith, most-bound (c .before .before .before .before .before .before .before .before .before .before .pre .width), give-numbers _ _ _ (c .before .before .before .before .before .before .before .before .before .before .pre))
+put-word-requires-2 c κs = omega (arith, most-bound (c .before .before .before .before .before .before .before .before .before .before .before .pre .width), give-numbers _ _ _ (c .before .before .before .before .before .before .before .before .before .before .before .pre))
 
 same-length : tie.Need-same-length
 same-length c = search needs
 
 returns : tie.Need-returns
-returns c = give-at _ _ _ (c .before .before .before .before .before .before .before .before .before .before .before .before .before .pre) (λ i. c .before .before .before .before .before .before .before .before .before .before .before .before .slice-known .given i .fits) _ _ (c .before .before .before .before .before .before .before .before .before .before .before .head-at .ensures .0) (c .before .before .before .before .before .before .before .before .word .ensures) _ _ (rw (c .before .before .before .before .before .before .before .before .before .before .offset-of .ensures) at (c .before .before .before .before .before .before .put-word .ensures)) (c .before .before .put-word2 .ensures)
+returns c = give-at _ _ _ (c .before .before .before .before .before .before .before .before .before .before .before .before .before .before .pre) (λ i. c .before .before .before .before .before .before .before .before .before .before .before .before .before .slice-known .given i .fits) _ _ (c .before .before .before .before .before .before .before .before .before .before .before .before .head-at .ensures .0) (c .before .before .before .before .before .before .before .before .before .before .word .ensures) _ _ (rw (c .before .before .before .before .before .before .before .before .offset-of .ensures) at (c .before .before .before .before .before .before .before .put-word .ensures)) (rw (c .before .before .before .free-header .ensures) at (c .before .before .put-word2 .ensures))
 
 pub give-spec : {M : Type 1} → statement M
 give-spec =
     tie.close
     (tie.spec
     head-at-requires
-    offset-of-requires
     word-requires
+    offset-of-requires
     put-word-requires
-    mul-put-word
-    mul-put-word-2
-    add-put-word
-    add-put-word-2
+    free-header-requires
     put-word-requires-2
     same-length
     returns)

@@ -1,6 +1,6 @@
 use Rattle.model.proofs.Sizes.{most-bound}
 use Prim.Native.Nat.{ℕ}
-use mathlib.Core.Path.{refl, ap, _∙_}
+use mathlib.Core.Path.{ap, _∙_}
 use native.Mathlib.Omega.{arith}
 use Rattle.words.specs.Word.{wordAt}
 use Rattle.engine.proofs.ItemTaking.{item-long, item-there, item-taken}
@@ -27,35 +27,26 @@ item-at-requires c κs = omega (arith, item-there (c .before .before .before .be
 word-requires-2 : tie.Need-word-requires-2
 word-requires-2 c κs = omega (arith, item-there (c .before .before .before .before .before .before .pre) (c .before .before .word .result) (c .before .before .word .ensures ∙ ap (λ (y : ℕ). wordAt (c .before .before .before .before .before .before .args .w) (c .before .before .before .before .before .before .args .h .now) y) (c .before .before .before .before .head-at .ensures .0)), c .before .before .before .before .before .before .pre .short, most-bound (c .before .before .before .before .before .before .pre .width))
 
-mul-next : tie.Need-mul-next
-mul-next c = search needs
-
-add-next : tie.Need-add-next
-add-next c = search needs
-
-sub-next : tie.Need-sub-next
-sub-next c = rw (c .word2 .ensures, c .before .before .item-at .ensures) ((item-there (c .before .before .before .before .before .before .before .pre) (c .before .before .before .word .result) (c .before .before .before .word .ensures ∙ ap (λ (y : ℕ). wordAt (c .before .before .before .before .before .before .before .args .w) (c .before .before .before .before .before .before .before .args .h .now) y) (c .before .before .before .before .before .head-at .ensures .0))) .flag)
+next-in-requires : tie.Need-next-in-requires
+next-in-requires c κs = search needs
 
 put-word-requires : tie.Need-put-word-requires
-put-word-requires c κs = omega (arith, item-long (c .before .before .before .before .before .before .before .before .pre), c .before .before .before .before .before .before .before .before .pre .class)
+put-word-requires c κs = omega (arith, item-long (c .before .before .before .before .before .before .before .before .before .pre), c .before .before .before .before .before .before .before .before .before .pre .class)
 
-mul-put-word : tie.Need-mul-put-word
-mul-put-word c = search needs
-
-add-put-word : tie.Need-add-put-word
-add-put-word c = search needs
+held-header-requires : tie.Need-held-header-requires
+held-header-requires c κs = search needs
 
 put-word-requires-2 : tie.Need-put-word-requires-2
-put-word-requires-2 c κs = omega (arith, item-there (c .before .before .before .before .before .before .before .before .before .before .before .before .pre) (c .before .before .before .before .before .before .before .before .word .result) (c .before .before .before .before .before .before .before .before .word .ensures ∙ ap (λ (y : ℕ). wordAt (c .before .before .before .before .before .before .before .before .before .before .before .before .args .w) (c .before .before .before .before .before .before .before .before .before .before .before .before .args .h .now) y) (c .before .before .before .before .before .before .before .before .before .before .head-at .ensures .0)), c .before .before .before .put-word .kept .1 .0)
+put-word-requires-2 c κs = omega (arith, item-there (c .before .before .before .before .before .before .before .before .before .before .before .before .before .before .pre) (c .before .before .before .before .before .before .before .before .before .before .word .result) (c .before .before .before .before .before .before .before .before .before .before .word .ensures ∙ ap (λ (y : ℕ). wordAt (c .before .before .before .before .before .before .before .before .before .before .before .before .before .before .args .w) (c .before .before .before .before .before .before .before .before .before .before .before .before .before .before .args .h .now) y) (c .before .before .before .before .before .before .before .before .before .before .before .before .head-at .ensures .0)), c .before .before .before .before .put-word .kept .1 .0)
 
 address-of-requires : tie.Need-address-of-requires
-address-of-requires c κs = omega (arith, item-there (c .before .before .before .before .before .before .before .before .before .before .before .before .before .before .before .pre) (c .before .before .before .before .before .before .before .before .before .before .before .word .result) (c .before .before .before .before .before .before .before .before .before .before .before .word .ensures ∙ ap (λ (y : ℕ). wordAt (c .before .before .before .before .before .before .before .before .before .before .before .before .before .before .before .args .w) (c .before .before .before .before .before .before .before .before .before .before .before .before .before .before .before .args .h .now) y) (c .before .before .before .before .before .before .before .before .before .before .before .before .before .head-at .ensures .0)), c .before .before .before .before .before .before .before .before .before .before .before .before .before .before .before .pre .short, most-bound (c .before .before .before .before .before .before .before .before .before .before .before .before .before .before .before .pre .width))
+address-of-requires c κs = omega (arith, item-there (c .before .before .before .before .before .before .before .before .before .before .before .before .before .before .before .before .before .pre) (c .before .before .before .before .before .before .before .before .before .before .before .before .before .word .result) (c .before .before .before .before .before .before .before .before .before .before .before .before .before .word .ensures ∙ ap (λ (y : ℕ). wordAt (c .before .before .before .before .before .before .before .before .before .before .before .before .before .before .before .before .before .args .w) (c .before .before .before .before .before .before .before .before .before .before .before .before .before .before .before .before .before .args .h .now) y) (c .before .before .before .before .before .before .before .before .before .before .before .before .before .before .before .head-at .ensures .0)), c .before .before .before .before .before .before .before .before .before .before .before .before .before .before .before .before .before .pre .short, most-bound (c .before .before .before .before .before .before .before .before .before .before .before .before .before .before .before .before .before .pre .width))
 
 same-length : tie.Need-same-length
 same-length c = search needs
 
 returns : tie.Need-returns
-returns c = item-taken (c .before .before .before .before .before .before .before .before .before .before .before .before .before .before .before .before .pre) (c .before .before .before .before .before .before .before .before .before .before .before .before .word .result) (c .before .before .before .before .before .before .before .before .before .before .before .before .word .ensures ∙ ap (λ (y : ℕ). wordAt (c .before .before .before .before .before .before .before .before .before .before .before .before .before .before .before .before .args .w) (c .before .before .before .before .before .before .before .before .before .before .before .before .before .before .before .before .args .h .now) y) (c .before .before .before .before .before .before .before .before .before .before .before .before .before .before .head-at .ensures .0)) _ _ _ _ _ _ _ (c .before .before .before .before .before .before .before .before .before .before .before .before .before .before .head-at .ensures .0) (c .before .before .before .before .before .before .before .before .before .before .before .item-at .ensures) (c .before .before .before .before .before .before .before .before .before .word2 .ensures) refl (c .before .before .before .before .before .before .before .put-word .ensures) (c .before .before .before .put-word2 .ensures) (c .address-of .ensures) (λ i. c .before .before .before .before .before .before .before .before .before .before .before .before .before .before .before .slice-known .given i .fits)
+returns c = item-taken (c .before .before .before .before .before .before .before .before .before .before .before .before .before .before .before .before .before .before .pre) (c .before .before .before .before .before .before .before .before .before .before .before .before .before .before .word .result) (c .before .before .before .before .before .before .before .before .before .before .before .before .before .before .word .ensures ∙ ap (λ (y : ℕ). wordAt (c .before .before .before .before .before .before .before .before .before .before .before .before .before .before .before .before .before .before .args .w) (c .before .before .before .before .before .before .before .before .before .before .before .before .before .before .before .before .before .before .args .h .now) y) (c .before .before .before .before .before .before .before .before .before .before .before .before .before .before .before .before .head-at .ensures .0)) _ _ _ _ _ _ _ (c .before .before .before .before .before .before .before .before .before .before .before .before .before .before .before .before .head-at .ensures .0) (c .before .before .before .before .before .before .before .before .before .before .before .before .before .item-at .ensures) (c .before .before .before .before .before .before .before .before .before .before .before .word2 .ensures) (c .before .before .before .before .before .before .before .before .before .before .next-in .ensures) (c .before .before .before .before .before .before .before .before .put-word .ensures) (rw (c .before .before .before .before .held-header .ensures) at (c .before .before .before .put-word2 .ensures)) (c .address-of .ensures) (λ i. c .before .before .before .before .before .before .before .before .before .before .before .before .before .before .before .before .before .slice-known .given i .fits)
 
 pub take-spec : {M : Type 1} → statement M
 take-spec =
@@ -65,12 +56,9 @@ take-spec =
     word-requires
     item-at-requires
     word-requires-2
-    mul-next
-    add-next
-    sub-next
+    next-in-requires
     put-word-requires
-    mul-put-word
-    add-put-word
+    held-header-requires
     put-word-requires-2
     address-of-requires
     same-length

@@ -1,4 +1,3 @@
-use Rattle.model.proofs.Sizes.{most-bound}
 use native.Mathlib.Omega.{arith}
 use borrow.Author.Needs.{needs}
 use Rattle.model.specs.Shape.{shape}
@@ -33,17 +32,8 @@ add-put-word c = omega (arith, link-more (c .before .before .loop .inv) (c .befo
 offset-of-requires : tie.Need-offset-of-requires Inv-loop μ-loop
 offset-of-requires c κs = omega (arith, c .before .before .before .loop .inv .low)
 
-mul-put-word : tie.Need-mul-put-word Inv-loop μ-loop
-mul-put-word c = omega (arith, link-small (c .before .before .before .before .before .loop .inv) (c .before .before .before .before .loop-test .taken) _ (c .before .offset-of .ensures))
-
-mul-put-word-2 : tie.Need-mul-put-word-2 Inv-loop μ-loop
-mul-put-word-2 c = search needs
-
-add-put-word-2 : tie.Need-add-put-word-2 Inv-loop μ-loop
-add-put-word-2 c = omega (arith, link-small (c .before .before .before .before .before .loop .inv) (c .before .before .before .before .loop-test .taken) _ (c .before .offset-of .ensures))
-
-add-put-word-3 : tie.Need-add-put-word-3 Inv-loop μ-loop
-add-put-word-3 c = omega (arith, link-small (c .before .before .before .before .before .loop .inv) (c .before .before .before .before .loop-test .taken) _ (c .before .offset-of .ensures))
+free-header-requires : tie.Need-free-header-requires Inv-loop μ-loop
+free-header-requires c κs = omega (arith, link-small (c .before .before .before .before .loop .inv) (c .before .before .before .loop-test .taken) _ (c .offset-of .ensures))
 
 put-word-requires : tie.Need-put-word-requires Inv-loop μ-loop
 put-word-requires c κs = omega (arith, link-room (c .before .before .before .before .before .loop .inv), c .before .before .before .before .before .loop .inv .size-is)
@@ -55,22 +45,19 @@ loop-less : tie.Need-loop-less Inv-loop μ-loop
 loop-less c = search needs
 
 loop-again : tie.Need-loop-again Inv-loop μ-loop
-loop-again c = link-turn (c .before .before .before .before .before .before .before .before .loop .inv) (c .before .before .before .before .before .before .before .loop-test .taken) _ _ (c .before .before .before .before .offset-of .ensures) (c .before .before .put-word .ensures)
+loop-again c = link-turn (c .before .before .before .before .before .before .before .before .loop .inv) (c .before .before .before .before .before .before .before .loop-test .taken) _ _ (c .before .before .before .before .offset-of .ensures) (rw (c .before .before .before .free-header .ensures) at (c .before .before .put-word .ensures))
 
-mul-put-word-3 : tie.Need-mul-put-word-3 Inv-loop μ-loop
-mul-put-word-3 c = search needs
-
-add-put-word-4 : tie.Need-add-put-word-4 Inv-loop μ-loop
-add-put-word-4 c = search needs
+free-mark-requires : tie.Need-free-mark-requires Inv-loop μ-loop
+free-mark-requires c κs = search needs
 
 put-word-requires-2 : tie.Need-put-word-requires-2 Inv-loop μ-loop
-put-word-requires-2 c κs = omega (arith, link-room (c .before .before .loop .inv), c .before .before .loop .inv .size-is)
+put-word-requires-2 c κs = omega (arith, link-room (c .before .before .before .loop .inv), c .before .before .before .loop .inv .size-is)
 
 same-length : tie.Need-same-length Inv-loop μ-loop
 same-length c = search needs
 
 returns : tie.Need-returns Inv-loop μ-loop
-returns c = link-done (c .before .before .before .before .before .loop .inv) (c .before .before .before .before .loop-test .left) _ (c .before .before .put-word2 .ensures)
+returns c = link-done (c .before .before .before .before .before .before .loop .inv) (c .before .before .before .before .before .loop-test .left) _ (rw (c .before .before .before .free-mark .ensures) at (c .before .before .put-word2 .ensures))
 
 pub link-items-spec : {M : Type 1} → statement M
 link-items-spec =
@@ -83,16 +70,12 @@ link-items-spec =
     loop-holds
     add-put-word
     offset-of-requires
-    mul-put-word
-    mul-put-word-2
-    add-put-word-2
-    add-put-word-3
+    free-header-requires
     put-word-requires
     sub-left
     loop-less
     loop-again
-    mul-put-word-3
-    add-put-word-4
+    free-mark-requires
     put-word-requires-2
     same-length
     returns)

@@ -6,20 +6,27 @@ use Rattle.engine.proofs.release.left_edge.Reads as reads
 use Rattle.engine.proofs.release.left_edge.Lts as lts
 use Rattle.words.proofs.word.Reads as word-reads
 
-mul-word : tie.Need-mul-word
-mul-word c = search needs
+sub-previous-at : tie.Need-sub-previous-at
+sub-previous-at c = search needs
 
-sub-word : tie.Need-sub-word
-sub-word c = search needs
+previous-at-requires : tie.Need-previous-at-requires
+previous-at-requires c κs = search needs
 
 word-requires : tie.Need-word-requires
 word-requires c κs = search needs
 
 returns : tie.Need-returns
-returns c = left-touching _ _ _ _ _ (c .before .before .if1 .taken) _ (c .word .ensures)
+returns c = left-touching _ _ _ _ _ (c .before .before .before .before .if1 .taken) _ _ (c .before .previous-at .ensures) (c .word .ensures)
 
 returns-2 : tie.Need-returns-2
 returns-2 c = left-apart (c .before .before .args .w) _ _ _ _ (c .if1 .left)
 
 pub left-edge-spec : {M : Type 1} → statement M
-left-edge-spec = tie.close (tie.spec mul-word sub-word word-requires returns returns-2)
+left-edge-spec =
+    tie.close
+    (tie.spec
+    sub-previous-at
+    previous-at-requires
+    word-requires
+    returns
+    returns-2)

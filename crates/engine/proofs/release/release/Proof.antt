@@ -21,7 +21,7 @@ word-requires : tie.Need-word-requires
 word-requires c κs = omega (arith, around _ _ (c .before .before .before .before .pre), c .link-at .ensures)
 
 left-edge-requires : tie.Need-left-edge-requires
-left-edge-requires c κs = record { width = c .before .before .before .before .before .before .pre .width; low = omega (arith, around _ _ (c .before .before .before .before .before .before .pre)); inside = omega (arith, around _ _ (c .before .before .before .before .before .before .pre)) }
+left-edge-requires c κs = record { width = c .before .before .before .before .before .before .pre .width; low = omega (arith, around _ _ (c .before .before .before .before .before .before .pre)); below = omega (arith, around _ _ (c .before .before .before .before .before .before .pre)); inside = omega (arith, around _ _ (c .before .before .before .before .before .before .pre)) }
 
 right-edge-requires : tie.Need-right-edge-requires
 right-edge-requires c κs = right-room _ _ (c .before .before .before .before .before .before .before .before .pre) _ (rw (c .before .before .before .before .link-at .ensures) at (c .before .before .before .word .ensures))
