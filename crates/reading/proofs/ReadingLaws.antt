@@ -1,5 +1,5 @@
 -- What a walk that counts shows at each block.
-use Prim.Native.Nat.{ℕ, suc, _+_, _-_, _*_, _/_, _%_, _≤_, _<_}
+use Prim.Native.Nat.{ℕ, suc, _+_, _-_, _*_, _≤_, _<_}
 use mathlib.Core.Path.{_≡_, refl, sym, ap, ap₂, _∙_}
 use mathlib.Core.Bool.{Bool, true, false, cond}
 use mathlib.Core.List.{List, [], _∷_, _++_}
@@ -9,9 +9,10 @@ use lib.Dec.{eqb}
 use borrow.Author.Tests.{eq-eqb, ne-eqb}
 use Rattle.words.specs.Width.{Width}
 use Rattle.words.specs.Word.{wordAt}
-use Rattle.model.specs.Shape.{shape, itemSize, offsetOf, endOf, start}
+use Rattle.model.specs.Shape.{shape, leastFree, itemSize, pageNeed, endOf, start}
+use Rattle.model.specs.Parts.{freeKind, variableKind, pageKind, tagOf, sizeIn, kindIn, classIn, heldHeader, farTagAt, firstItemAt}
 use Rattle.model.specs.Picture.{Shows}
-use Rattle.model.specs.Layout.{Slot, idle, held, variable, page, Block, free, used, Layout, nextOf, useSize, sizeOf, ends, header, slotWords, useWords, own}
+use Rattle.model.specs.Layout.{Slot, idle, held, variable, page, Block, free, used, Layout, useSize, sizeOf, ends, header, slotWords, useWords, own}
 use Rattle.model.specs.Sound.{Allowed, AllowedUse, AllAllowed, Here, Sound}
 use Rattle.model.specs.Reading.{heldIn}
 use Rattle.model.proofs.pictures.Pictures.{shows-left}
@@ -28,27 +29,27 @@ use Rattle.reading.specs.Counting.{heldFrom, PageAt, AtPage, PageTold, G
 held-read : (w : ℕ) (b l : List ℕ) (c : ℕ) → (q : ℕ) (ss : List Slot) → Shows w b (slotWords (shape w) c l q ss) → heldFrom w b c q (length ss) ≡ heldIn ss
 unfolding slotWords header Shows heldFrom heldIn
 held-read w b l c q [] s = refl
-held-read w b l c q (idle ∷ ss) s = rw (ne-eqb (wordAt w b q) (4 * c + 3) (λ e. omega (arith, s .0))) (omega (arith, held-read w b l c (q + itemSize (shape w) c) ss (s .1)))
-held-read w b l c q (held ∷ ss) s = rw (eq-eqb (wordAt w b q) (4 * c + 3) (s .0)) (omega (arith, held-read w b l c (q + itemSize (shape w) c) ss (s .1)))
+held-read w b l c q (idle ∷ ss) s = rw (ne-eqb (wordAt w b q) (heldHeader c) (λ e. omega (arith, s .0))) (omega (arith, held-read w b l c (q + itemSize (shape w) c) ss (s .1)))
+held-read w b l c q (held ∷ ss) s = rw (eq-eqb (wordAt w b q) (heldHeader c) (s .0)) (omega (arith, held-read w b l c (q + itemSize (shape w) c) ss (s .1)))
 
 -- counting them, item by item
 pub record Held (w : ℕ) (b : List ℕ) (c first n size q left held : ℕ) : Type 0 where
   pub width : Width w
-  pub few : c < 4 * w
+  pub few : c < shape w .classes
   pub item-size : size ≡ itemSize (shape w) c
   pub small : held + left ≤ n
-  pub many : n ≤ 4097
+  pub many : n ≡ shape w .perPage c
   pub room : q + left * itemSize (shape w) c ≤ length b
   pub rest : held + heldFrom w b c q left ≡ heldFrom w b c first n
 
-pub held-start : {w : ℕ} → Width w → (b : List ℕ) (c first n size : ℕ) → c < 4 * w → n ≤ 4097 → first + n * itemSize (shape w) c ≤ length b → size ≡ itemSize (shape w) c → Held w b c first n size first n 0
+pub held-start : {w : ℕ} → Width w → (b : List ℕ) (c first n size : ℕ) → c < shape w .classes → n ≡ shape w .perPage c → first + n * itemSize (shape w) c ≤ length b → size ≡ itemSize (shape w) c → Held w b c first n size first n 0
 held-start wd b c first n size l m r e = record { width = wd; few = l; item-size = e; small = omega arith; many = m; room = r; rest = omega arith }
 
-held-turn : (w : ℕ) (b : List ℕ) (c q left : ℕ) → (left ≡ 0 → ⊥) → heldFrom w b c q left ≡ cond (eqb (wordAt w b q) (4 * c + 3)) 1 0 + heldFrom w b c (q + itemSize (shape w) c) (left - 1)
+held-turn : (w : ℕ) (b : List ℕ) (c q left : ℕ) → (left ≡ 0 → ⊥) → heldFrom w b c q left ≡ cond (eqb (wordAt w b q) (heldHeader c)) 1 0 + heldFrom w b c (q + itemSize (shape w) c) (left - 1)
 unfolding heldFrom
 held-turn w b c q left l = go (left - 1) (omega arith) refl
   where
-    go : (k : ℕ) → left ≡ suc k → left - 1 ≡ k → heldFrom w b c q left ≡ cond (eqb (wordAt w b q) (4 * c + 3)) 1 0 + heldFrom w b c (q + itemSize (shape w) c) (left - 1)
+    go : (k : ℕ) → left ≡ suc k → left - 1 ≡ k → heldFrom w b c q left ≡ cond (eqb (wordAt w b q) (heldHeader c)) 1 0 + heldFrom w b c (q + itemSize (shape w) c) (left - 1)
     go k e f = rw (f, e)
 
 one-less : (left s : ℕ) → (left ≡ 0 → ⊥) → s + (left - 1) * s ≡ left * s
@@ -68,19 +69,23 @@ module _ {w : ℕ} {b : List ℕ} {c first n size q left held : ℕ} (i : Held w
   pub held-next : (left ≡ 0 → ⊥) → q + size ≤ length b
   held-next l = omega (arith, i .room, i .item-size, one-less left (itemSize (shape w) c) l)
 
-  pub held-again : (left ≡ 0 → ⊥) → (x y : ℕ) → x ≡ wordAt w b q → y ≡ cond (eqb x (4 * c + 3)) 1 0 → Held w b c first n size (q + size) (left - 1) (held + y)
-  held-again l x y e f =
-      let z : y ≡ cond (eqb (wordAt w b q) (4 * c + 3)) 1 0 = f ∙ ap (λ (m : ℕ). cond (eqb m (4 * c + 3)) 1 0) e in
+  -- x is the item's header, m that of an item in use, and y 1 where they are the same, as code works them out
+  pub held-again : (left ≡ 0 → ⊥) → (x m y : ℕ) → x ≡ wordAt w b q → m ≡ heldHeader c → y ≡ cond (eqb x m) 1 0 → Held w b c first n size (q + size) (left - 1) (held + y)
+  held-again l x m y e em f =
+      let z : y ≡ cond (eqb (wordAt w b q) (heldHeader c)) 1 0 = f ∙ ap₂ (λ (i j : ℕ). cond (eqb i j) 1 0) e em in
       rw (i .item-size)
       record {
         width = i .width;
         few = i .few;
         item-size = refl;
-        small = omega (arith, i .small, z, cond-one (eqb (wordAt w b q) (4 * c + 3)));
+        small = omega (arith, i .small, z, cond-one (eqb (wordAt w b q) (heldHeader c)));
         many = i .many;
         room = omega (arith, i .room, one-less left (itemSize (shape w) c) l);
         rest = omega (arith, i .rest, held-turn w b c q left l);
       }
+
+  pub held-bound : held + left ≤ 4097
+  held-bound = omega (arith, i .small, i .many, per-page-bound (i .width) c)
 
   pub held-done : left ≡ 0 → (held ≡ heldFrom w b c first n) × (held ≤ n)
   unfolding heldFrom
@@ -88,27 +93,30 @@ module _ {w : ℕ} {b : List ℕ} {c first n size q left held : ℕ} (i : Held w
 
 -- what the code reads of a page
 module _ {w : ℕ} {b : List ℕ} {p c k : ℕ} {ss : List Slot} (a : PageAt w b p c k ss) where
-  pub page-class : (x d : ℕ) → x ≡ wordAt w b (p + w) → d ≡ x % (16 * w) / 4 → d ≡ c
-  page-class x d e f = f ∙ ap (λ (z : ℕ). z % (16 * w) / 4) e ∙ go ss (a .count) (a .shown)
+  pub page-class : (x d : ℕ) → x ≡ wordAt w b (firstItemAt (shape w) p) → d ≡ classIn (shape w) x → d ≡ c
+  page-class x d e f = f ∙ ap (classIn (shape w)) e ∙ go ss (a .count) (a .shown)
     where
-      go : (ss : List Slot) → length ss ≡ shape w .perPage c → Shows w b (slotWords (shape w) c (a .list) (p + w) ss) → wordAt w b (p + w) % (16 * w) / 4 ≡ c
+      go : (ss : List Slot) → length ss ≡ shape w .perPage c → Shows w b (slotWords (shape w) c (a .list) (firstItemAt (shape w) p) ss) → classIn (shape w) (wordAt w b (firstItemAt (shape w) p)) ≡ c
       go [] n s = absurd (omega (arith, per-page-bound (a .width) c))
-      go (y ∷ ss) n s = class-read (a .width) b (a .list) c (a .few) (a .aligned) (p + w) y ss s
+      go (y ∷ ss) n s = class-read (a .width) b (a .list) c (a .few) (a .aligned) (firstItemAt (shape w) p) y ss s
 
-  pub page-room : p + 2 * w + shape w .perPage c * itemSize (shape w) c ≤ endOf (length b)
+  pub page-room : p + pageNeed (shape w) c ≤ endOf (length b)
   unfolding useSize
-  page-room = let i : p + (2 * w + shape w .perPage c * itemSize (shape w) c + k) ≤ endOf (length b) = rw (a .count) at (a .inside) in omega (arith, i)
+  page-room = let i : p + (pageNeed (shape w) c + k) ≤ endOf (length b) = rw (a .count) at (a .inside) in omega (arith, i)
 
-  -- x is the first header, d the class that it says and n the items' number, as code works them out
-  module _ (x d n : ℕ) (e : x ≡ wordAt w b (p + w)) (ed : d ≡ x % (16 * w) / 4) (en : n ≡ shape w .perPage d) where
-    pub page-numbers : (d < 4 * w) × (n ≤ 4097) × (p + w + n * itemSize (shape w) d ≤ length b)
-    page-numbers = rw (en, page-class x d e ed) (a .few, per-page-bound (a .width) c .1, omega (arith, page-room))
+  -- q is where the first header stands, x that header, d the class that it says and n the items' number, as code works them out
+  module _ (q x d n : ℕ) (eq : q ≡ firstItemAt (shape w) p) (e : x ≡ wordAt w b q) (ed : d ≡ classIn (shape w) x) (en : n ≡ shape w .perPage d) where
+    class-told : d ≡ c
+    class-told = page-class x d (e ∙ ap (wordAt w b) eq) ed
 
-    pub page-told : (m : ℕ) → m ≡ heldFrom w b d (p + w) n → PageTold (record { class = d; held = m; idle = n - m }) c ss
+    pub page-numbers : (d < shape w .classes) × (q + n * itemSize (shape w) d ≤ length b)
+    page-numbers = rw (en, class-told, eq) (a .few, omega (arith, page-room))
+
+    pub page-told : (m : ℕ) → m ≡ heldFrom w b d q n → PageTold (record { class = d; held = m; idle = n - m }) c ss
     page-told m g =
-        let z = page-class x d e ed in
+        let z = class-told in
         let n-is : n ≡ length ss = en ∙ ap (λ (y : ℕ). shape w .perPage y) z ∙ sym (a .count) in
-        let m-is : m ≡ heldIn ss = g ∙ ap₂ (λ (y i : ℕ). heldFrom w b y (p + w) i) z n-is ∙ held-read w b (a .list) c (p + w) ss (a .shown) in
+        let m-is : m ≡ heldIn ss = g ∙ ap (λ (y : ℕ). heldFrom w b d y n) eq ∙ ap₂ (λ (y i : ℕ). heldFrom w b y (firstItemAt (shape w) p) i) z n-is ∙ held-read w b (a .list) c (firstItemAt (shape w) p) ss (a .shown) in
         record { class = z; held = m-is; idle = ap₂ (λ (i j : ℕ). i - j) n-is m-is }
 
 -- a walk that counts, at its start, at each kind of block, and at its end
@@ -133,33 +141,33 @@ module _ {A : Type 0} {w : ℕ} (f : List Block → A) where
     going-done l L h = gone-done f (g .width) h (g .gone L h) l
 
     module _ (t : ℕ) (e : t ≡ wordAt w b p) (l : p < endOf (length b)) where
-      pub going-inside : (4 * w ≤ t / 8 * 8) × (p + t / 8 * 8 ≤ endOf (length b))
+      pub going-inside : (leastFree (shape w) ≤ sizeIn t) × (p + sizeIn t ≤ endOf (length b))
       going-inside =
           let k = g .gone (g .sound .layout) (g .sound .here) in
           let z = sized (g .width) (g .sound .here) (stands (k .passed)) t e l in
           (z .least, z .inside)
 
-      pub going-free : t % 8 ≡ 0 → (u : A) → ((pre : List Block) → v ≡ f pre → u ≡ f (pre ++ (free (t / 8 * 8) ∷ []))) → Going w f b (p + t / 8 * 8) u
+      pub going-free : kindIn t ≡ freeKind → (u : A) → ((pre : List Block) → v ≡ f pre → u ≡ f (pre ++ (free (sizeIn t) ∷ []))) → Going w f b (p + sizeIn t) u
       unfolding sizeOf
       going-free z u more = record { width = g .width; sound = g .sound; gone = on }
         where
-          on : (L : Layout) → Here (shape w) b L → Gone w f L (p + t / 8 * 8) u
+          on : (L : Layout) → Here (shape w) b L → Gone w f L (p + sizeIn t) u
           on L h =
               let k = g .gone L h in
               let r = is-free (g .width) h (stands (k .passed)) t e l z in
-              gone-on f (g .width) h k (free (t / 8 * 8)) (r .0) (r .1) (t / 8 * 8) refl u (more (k .pre) (k .so-far))
+              gone-on f (g .width) h k (free (sizeIn t)) (r .0) (r .1) (sizeIn t) refl u (more (k .pre) (k .so-far))
 
-      pub going-variable : t % 8 ≡ 2 → (u : A) → ((pre : List Block) → v ≡ f pre → u ≡ f (pre ++ (used (variable (t / 8 * 8)) ∷ []))) → Going w f b (p + t / 8 * 8) u
+      pub going-variable : kindIn t ≡ variableKind → (u : A) → ((pre : List Block) → v ≡ f pre → u ≡ f (pre ++ (used (variable (sizeIn t)) ∷ []))) → Going w f b (p + sizeIn t) u
       unfolding sizeOf useSize
       going-variable z u more = record { width = g .width; sound = g .sound; gone = on }
         where
-          on : (L : Layout) → Here (shape w) b L → Gone w f L (p + t / 8 * 8) u
+          on : (L : Layout) → Here (shape w) b L → Gone w f L (p + sizeIn t) u
           on L h =
               let k = g .gone L h in
               let r = is-variable (g .width) h (stands (k .passed)) t e l z in
-              gone-on f (g .width) h k (used (variable (t / 8 * 8))) (r .0) (r .1) (t / 8 * 8) refl u (more (k .pre) (k .so-far))
+              gone-on f (g .width) h k (used (variable (sizeIn t))) (r .0) (r .1) (sizeIn t) refl u (more (k .pre) (k .so-far))
 
-      module _ (z : t % 8 ≡ 0 → ⊥) (y : t % 8 ≡ 2 → ⊥) where
+      module _ (z : kindIn t ≡ freeKind → ⊥) (y : kindIn t ≡ variableKind → ⊥) where
         pub page-there : (L : Layout) (h : Here (shape w) b L) → PageThere (g .width) h (stands (g .gone L h .passed)) t e l
         page-there L h = is-page (g .width) h (stands (g .gone L h .passed)) t e l z y
 
@@ -174,13 +182,13 @@ module _ {A : Type 0} {w : ℕ} (f : List Block → A) where
               inside = q .met .inside;
               list = getD (L .lists) (q .class) [];
               aligned = λ o. next-aligned (g .width) (endOf (length b)) L (h .valid) (q .class) o (q .met .allowed .0);
-              shown = shows-left w b (slotWords (shape w) (q .class) (getD (L .lists) (q .class) []) (p + w) (q .slots))
-                  (record { at = p + useSize (shape w) (page (q .class) (q .spare) (q .slots)) - w; is = useSize (shape w) (page (q .class) (q .spare) (q .slots)) + 3 } ∷ [])
+              shown = shows-left w b (slotWords (shape w) (q .class) (getD (L .lists) (q .class) []) (firstItemAt (shape w) p) (q .slots))
+                  (record { at = farTagAt (shape w) p (useSize (shape w) (page (q .class) (q .spare) (q .slots))); is = tagOf (useSize (shape w) (page (q .class) (q .spare) (q .slots))) pageKind } ∷ [])
                   (q .met .shown .1);
             }
 
-        -- a page's tag has flag 3
-        pub page-flag : t % 8 ≡ 3
+        -- no other kind is left
+        pub page-flag : kindIn t ≡ pageKind
         unfolding blockTag sizeOf
         page-flag = let q = page-there (g .sound .layout) (g .sound .here) in omega (arith, q .met .tag, q .met .eight)
 
@@ -190,19 +198,19 @@ module _ {A : Type 0} {w : ℕ} (f : List Block → A) where
             let h = g .sound .here in
             record { class = page-there L h .class; spare = page-there L h .spare; slots = page-there L h .slots; at = there-at L h }
 
-        pub going-page : (u : A) → ((pre : List Block) (c k : ℕ) (ss : List Slot) → PageAt w b p c k ss → v ≡ f pre → u ≡ f (pre ++ (used (page c k ss) ∷ []))) → Going w f b (p + t / 8 * 8) u
+        pub going-page : (u : A) → ((pre : List Block) (c k : ℕ) (ss : List Slot) → PageAt w b p c k ss → v ≡ f pre → u ≡ f (pre ++ (used (page c k ss) ∷ []))) → Going w f b (p + sizeIn t) u
         unfolding sizeOf
         going-page u more = record { width = g .width; sound = g .sound; gone = on }
           where
-            on : (L : Layout) → Here (shape w) b L → Gone w f L (p + t / 8 * 8) u
+            on : (L : Layout) → Here (shape w) b L → Gone w f L (p + sizeIn t) u
             on L h =
                 let k = g .gone L h in
                 let q = page-there L h in
-                gone-on f (g .width) h k (used (page (q .class) (q .spare) (q .slots))) (q .after) (q .rest) (t / 8 * 8) (q .size) u
+                gone-on f (g .width) h k (used (page (q .class) (q .spare) (q .slots))) (q .after) (q .rest) (sizeIn t) (q .size) u
                 (more (k .pre) (q .class) (q .spare) (q .slots) (there-at L h) (k .so-far))
 
 -- what is told of a page is small
-pub page-small : {w : ℕ} {b : List ℕ} {p : ℕ} (a : AtPage w b p) (r : Page) → ((c k : ℕ) (ss : List Slot) → PageAt w b p c k ss → PageTold r c ss) → (r .class < 4 * w) × (r .held ≤ 4097) × (r .idle ≤ 4097)
+pub page-small : {w : ℕ} {b : List ℕ} {p : ℕ} (a : AtPage w b p) (r : Page) → ((c k : ℕ) (ss : List Slot) → PageAt w b p c k ss → PageTold r c ss) → (r .class < shape w .classes) × (r .held ≤ 4097) × (r .idle ≤ 4097)
 page-small a r t =
     let q = t (a .class) (a .spare) (a .slots) (a .at) in
     (omega (arith, q .class, a .at .few), omega (arith, q .held, held-few (a .slots), a .at .count, per-page-bound (a .at .width) (a .class)), omega (arith, q .idle, a .at .count, per-page-bound (a .at .width) (a .class)))

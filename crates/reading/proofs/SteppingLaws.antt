@@ -1,5 +1,5 @@
 -- What each way through a step of a walk shows.
-use Prim.Native.Nat.{ℕ, _+_, _-_, _*_, _/_, _%_, _≤_, _<_}
+use Prim.Native.Nat.{ℕ, _+_, _≤_, _<_}
 use mathlib.Core.Path.{_≡_, refl, sym, ap, ap₂, subst, _∙_}
 use mathlib.Core.List.{List, [], _∷_, _++_}
 use mathlib.Core.Bool.{true, false}
@@ -9,7 +9,8 @@ use borrow.Author.Tests.{eqb-true, eqb-false}
 use lib.ListN.{length}
 use Rattle.words.specs.Width.{Width}
 use Rattle.words.specs.Word.{wordAt}
-use Rattle.model.specs.Shape.{shape, endOf, start}
+use Rattle.model.specs.Shape.{shape, leastFree, endOf, start}
+use Rattle.model.specs.Parts.{freeKind, variableKind, sizeIn, kindIn, classIn, nextAt, previousAt, firstItemAt}
 use Rattle.model.specs.Picture.{Shows}
 use Rattle.model.specs.Layout.{variable, page, Block, free, used, Layout, ifFree, useSize, sizeOf, own}
 use Rattle.model.specs.Sound.{Here, Sound}
@@ -53,22 +54,22 @@ module _ {w : ℕ} {b : List ℕ} {at p : ℕ} (g : Towards w b at p) where
       }
 
   module _ (t : ℕ) (e : t ≡ wordAt w b p) (l : p < endOf (length b)) where
-    pub toward-inside : (4 * w ≤ t / 8 * 8) × (p + t / 8 * 8 ≤ endOf (length b))
+    pub toward-inside : (leastFree (shape w) ≤ sizeIn t) × (p + sizeIn t ≤ endOf (length b))
     toward-inside =
         let k = g .toward (g .sound .layout) (g .sound .here) in
         let z = sized (g .width) (g .sound .here) (stands (k .passed)) t e l in
         (z .least, z .inside)
 
-    pub toward-on : p < at → Towards w b at (p + t / 8 * 8)
+    pub toward-on : p < at → (s : ℕ) → s ≡ sizeIn t → Towards w b at (p + s)
     unfolding lastFree
-    toward-on m = record { width = g .width; sound = g .sound; toward = on }
+    toward-on m s es = rw es record { width = g .width; sound = g .sound; toward = on }
       where
-        on : (L : Layout) → Here (shape w) b L → Toward w L at (p + t / 8 * 8)
+        on : (L : Layout) → Here (shape w) b L → Toward w L at (p + sizeIn t)
         on L h =
             let k = g .toward L h in
             let s = stands (k .passed) in
             let x = there (g .width) h s l in
-            let size : sizeOf (shape w) (x .block) ≡ t / 8 * 8 = size-is (g .width) h s t e l (x .block) (x .after) (x .met) in
+            let size : sizeOf (shape w) (x .block) ≡ sizeIn t = size-is (g .width) h s t e l (x .block) (x .after) (x .met) in
             let prev : lastFree (shape w) (start (shape w)) (k .pre ++ (x .block ∷ [])) 0 ≡ ifFree (x .block) p (lastFree (shape w) (start (shape w)) (k .pre) 0) =
             last-append (shape w) (start (shape w)) (k .pre) (x .block ∷ []) 0 ∙ ap (λ (y : ℕ). ifFree (x .block) y (lastFree (shape w) (start (shape w)) (k .pre) 0)) (k .passed .begins) in
             record {
@@ -82,35 +83,38 @@ module _ {w : ℕ} {b : List ℕ} {at p : ℕ} (g : Towards w b at p) where
 
 -- the walk has come to at, where a block begins
 module _ {w : ℕ} {b : List ℕ} {at : ℕ} (g : Towards w b at at) (t : ℕ) (e : t ≡ wordAt w b at) (l : at < endOf (length b)) where
-  module _ (L : Layout) (h : Here (shape w) b L) where
-    met-is : (x : Block) (after : List Block) → g .toward L h .rest ≡ x ∷ after → (k : Kind) → k ≡ kindOf (shape w) at (lastFree (shape w) (start (shape w)) (g .toward L h .pre) 0) x after → (s : ℕ) → sizeOf (shape w) x ≡ s
+  -- s is the size that its tag says
+  module _ (s : ℕ) (es : s ≡ sizeIn t) (L : Layout) (h : Here (shape w) b L) where
+    met-is : (x : Block) (after : List Block) → g .toward L h .rest ≡ x ∷ after → (k : Kind) → k ≡ kindOf (shape w) at (lastFree (shape w) (start (shape w)) (g .toward L h .pre) 0) x after → sizeOf (shape w) x ≡ sizeIn t
         → record { position = at; size = s; kind = k; next = at + s } ≡ step (shape w) at L
-    met-is x after r k ek s es =
+    met-is x after r k ek ez =
         let q = g .toward L h in
         sym
         (q .same ∙ ap (λ (l : List Block). stepFrom (shape w) at at (lastFree (shape w) (start (shape w)) (q .pre) 0) l) r ∙ step-here (g .width) at (lastFree (shape w) (start (shape w)) (q .pre) 0) x after
-        ∙ ap₂ (λ (y : ℕ) (z : Kind). record { position = at; size = y; kind = z; next = at + y }) es (sym ek))
+        ∙ ap₂ (λ (y : ℕ) (z : Kind). record { position = at; size = y; kind = z; next = at + y }) (ez ∙ sym es) (sym ek))
 
-    pub met-free : t % 8 ≡ 0 → (n m : ℕ) → n ≡ wordAt w b (at + w) → m ≡ wordAt w b (at + t / 8 * 8 - 2 * w) → record { position = at; size = t / 8 * 8; kind = aFree n m; next = at + t / 8 * 8 } ≡ step (shape w) at L
+    pub met-free : kindIn t ≡ freeKind → (n m : ℕ) → n ≡ wordAt w b (nextAt (shape w) at) → m ≡ wordAt w b (previousAt (shape w) at s) → record { position = at; size = s; kind = aFree n m; next = at + s } ≡ step (shape w) at L
     unfolding sizeOf kindOf own Shows
     met-free z n m en em =
-        let s = stands (g .toward L h .passed) in
-        let r = is-free (g .width) h s t e l z in
-        let shown = met (g .width) h s (free (t / 8 * 8)) (r .0) (r .1) .shown in
-        met-is (free (t / 8 * 8)) (r .0) (r .1) (aFree n m) (ap₂ (λ (x y : ℕ). aFree x y) (en ∙ shown .1 .0) (em ∙ shown .1 .1 .0)) (t / 8 * 8) refl
+        let k = stands (g .toward L h .passed) in
+        let r = is-free (g .width) h k t e l z in
+        let shown = met (g .width) h k (free (sizeIn t)) (r .0) (r .1) .shown in
+        let m-is : m ≡ wordAt w b (previousAt (shape w) at (sizeIn t)) = em ∙ ap (λ (y : ℕ). wordAt w b (previousAt (shape w) at y)) es in
+        met-is (free (sizeIn t)) (r .0) (r .1) (aFree n m) (ap₂ (λ (x y : ℕ). aFree x y) (en ∙ shown .1 .0) (m-is ∙ shown .1 .1 .0)) refl
 
-    pub met-variable : t % 8 ≡ 2 → record { position = at; size = t / 8 * 8; kind = aVariable; next = at + t / 8 * 8 } ≡ step (shape w) at L
+    pub met-variable : kindIn t ≡ variableKind → record { position = at; size = s; kind = aVariable; next = at + s } ≡ step (shape w) at L
     unfolding sizeOf useSize kindOf
     met-variable z =
         let r = is-variable (g .width) h (stands (g .toward L h .passed)) t e l z in
-        met-is (used (variable (t / 8 * 8))) (r .0) (r .1) aVariable refl (t / 8 * 8) refl
+        met-is (used (variable (sizeIn t))) (r .0) (r .1) aVariable refl refl
 
-    pub met-page : (t % 8 ≡ 0 → ⊥) → (t % 8 ≡ 2 → ⊥) → (f d : ℕ) → f ≡ wordAt w b (at + w) → d ≡ f % (16 * w) / 4 → record { position = at; size = t / 8 * 8; kind = aPage d; next = at + t / 8 * 8 } ≡ step (shape w) at L
+    pub met-page : (kindIn t ≡ freeKind → ⊥) → (kindIn t ≡ variableKind → ⊥) → (f d : ℕ) → f ≡ wordAt w b (firstItemAt (shape w) at) → d ≡ classIn (shape w) f
+        → record { position = at; size = s; kind = aPage d; next = at + s } ≡ step (shape w) at L
     unfolding sizeOf kindOf
     met-page z y f d ef ed =
         let q = page-there (λ (l : List Block). tt) going t e l z y L h in
         met-is (used (page (q .class) (q .spare) (q .slots))) (q .after) (q .rest) (aPage d)
-        (ap aPage (page-class (there-at (λ (l : List Block). tt) going t e l z y L h) f d ef ed)) (t / 8 * 8) (q .size)
+        (ap aPage (page-class (there-at (λ (l : List Block). tt) going t e l z y L h) f d ef ed)) (q .size)
       where
         going : Going {A = Unit {0}} w (λ (l : List Block). tt) b at tt
         going = record { width = g .width; sound = g .sound; gone = λ L h. record { pre = g .toward L h .pre; rest = g .toward L h .rest; passed = g .toward L h .passed; so-far = refl } }

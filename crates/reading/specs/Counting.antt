@@ -1,5 +1,5 @@
 -- What the walks that count ask and promise.
-use Prim.Native.Nat.{ℕ, zero, suc, _+_, _-_, _*_, _%_, _^_, _≤_, _<_}
+use Prim.Native.Nat.{ℕ, zero, suc, _+_, _-_, _%_, _^_, _≤_, _<_}
 use mathlib.Core.Path.{_≡_}
 use mathlib.Core.Bool.{cond}
 use mathlib.Core.List.{List, [], _∷_}
@@ -7,7 +7,8 @@ use lib.ListN.{length, getD}
 use lib.Dec.{eqb}
 use Rattle.words.specs.Width.{Width}
 use Rattle.words.specs.Word.{wordAt}
-use Rattle.model.specs.Shape.{shape, itemSize, endOf}
+use Rattle.model.specs.Shape.{shape, wide, itemSize, endOf}
+use Rattle.model.specs.Parts.{heldHeader, firstItemAt}
 use Rattle.model.specs.Picture.{Shows}
 use Rattle.model.specs.Layout.{Slot, page, Block, Layout, nextOf, useSize, slotWords}
 use Rattle.model.specs.Sound.{Here, Sound}
@@ -17,20 +18,24 @@ use Rattle.model.specs.inner.Walks.{Gone}
 use Rattle.reading.specs.declared.counting.Page.{Page}
 use Rattle.reading.specs.declared.counting.Statistics.{Statistics}
 
+-- the rows of a table: as many as document 01's heap has classes
+abbrev pub tableRows : ℕ
+tableRows = wide .classes
+
 -- how many of n items of class c, with their headers from q on, say that they are in use
 unfoldable pub heldFrom : ℕ → List ℕ → ℕ → ℕ → ℕ → ℕ
 heldFrom w b c q zero = 0
-heldFrom w b c q (suc n) = cond (eqb (wordAt w b q) (4 * c + 3)) 1 0 + heldFrom w b c (q + itemSize (shape w) c) n
+heldFrom w b c q (suc n) = cond (eqb (wordAt w b q) (heldHeader c)) 1 0 + heldFrom w b c (q + itemSize (shape w) c) n
 
 -- a page of class c with the items ss stands at p; its free items are listed in l
 pub record PageAt (w : ℕ) (b : List ℕ) (p c k : ℕ) (ss : List Slot) : Type 0 where
   pub width : Width w
-  pub few : c < 4 * w
+  pub few : c < shape w .classes
   pub count : length ss ≡ shape w .perPage c
   pub inside : p + useSize (shape w) (page c k ss) ≤ endOf (length b)
   pub list : List ℕ
   pub aligned : (o : ℕ) → nextOf o list % w ≡ 0
-  pub shown : Shows w b (slotWords (shape w) c list (p + w) ss)
+  pub shown : Shows w b (slotWords (shape w) c list (firstItemAt (shape w) p) ss)
 
 pub record AtPage (w : ℕ) (b : List ℕ) (p : ℕ) : Type 0 where
   pub class : ℕ

@@ -14,7 +14,7 @@ use Rattle.model.specs.Reading as reading
 use Rattle.model.specs.inner.Walks.{lastFree, Passed}
 use Rattle.reading.specs.declared.stepping.Kind.{Kind}
 use Rattle.reading.specs.declared.stepping.Kind.the-variants.{Free, Variable, Page, End}
-use Rattle.reading.specs.declared.stepping.Block.{Block}
+use Rattle.reading.specs.declared.stepping.MetBlock.{MetBlock}
 
 -- the kind that a value stands for, and the answer: the walk that stood at at then stands behind the block
 abbrev pub toldKind : Kind → reading.Kind
@@ -23,7 +23,7 @@ toldKind Variable = aVariable
 toldKind (Page c) = aPage c
 toldKind End = theEnd
 
-abbrev pub toldBlock : ℕ → Block → Step
+abbrev pub toldBlock : ℕ → MetBlock → Step
 toldBlock at r = record { position = r .position .0; size = r .size; kind = toldKind (r .kind); next = at + r .size }
 
 -- a walk towards at stands at p, and has not met at
@@ -44,6 +44,6 @@ pub record StartTold (w : ℕ) (b : List ℕ) (at : ℕ) (r : Bool) : Type 0 whe
   pub not-met : r ≡ false → (L : Layout) → Here (shape w) b L → step (shape w) at L ≡ ended (shape w) at
 
 -- the block at at
-pub record Meets (w : ℕ) (b : List ℕ) (at : ℕ) (r : Block) : Type 0 where
+pub record Meets (w : ℕ) (b : List ℕ) (at : ℕ) (r : MetBlock) : Type 0 where
   pub answer : (L : Layout) → Here (shape w) b L → toldBlock at r ≡ step (shape w) at L
   pub fits : at + r .size < 2 ^ 64

@@ -1,23 +1,35 @@
 // Statistics and the table of classes: each by one walk over the blocks, and over a page's items.
+use model::FREE;
+use model::PAGE;
 use model::Position;
+use model::VARIABLE;
 use model::class_in;
+use model::end_of;
+use model::first_item_at;
+use model::held_header;
 use model::item_size;
 use model::items_in_page;
+use model::kind_in;
+use model::size_in;
 use model::start;
 use words::word;
 ghost use mathlib.Core.Path.{_≡_};
 ghost use mathlib.Core.Bool.{cond};
 ghost use mathlib.Core.List.{List, []};
-ghost use Prim.Native.Nat.{ℕ, _+_, _*_, _/_, _≤_, _<_, _^_, max};
+ghost use Prim.Native.Nat.{ℕ, _+_, _*_, _≤_, _<_, max};
 ghost use lib.Dec.{eqb};
 ghost use lib.ListN.{length};
 ghost use Rattle.words.specs.Width.{Width};
 ghost use Rattle.words.specs.Word.{wordAt};
 ghost use Rattle.model.specs.Shape.{shape, itemSize, endOf};
+ghost use Rattle.model.specs.Parts.{sizeIn};
 ghost use Rattle.model.specs.Layout.{Layout, Slot};
 ghost use Rattle.model.specs.Sound.{Here, Sound};
 ghost use Rattle.model.specs.Reading.{counted, rowsFrom};
-ghost use Rattle.reading.specs.Counting.{heldFrom, AtPage, PageAt, PageTold, RowRoom, rowAnd, Going, told};
+ghost use Rattle.reading.specs.Counting.{tableRows, heldFrom, AtPage, PageAt, PageTold, RowRoom, rowAnd, Going, told};
+
+// The rows of a table: as many as document 01's heap has classes.
+pub const ROWS: usize = 32;
 
 // What the blocks of a heap come to.
 pub struct Statistics {
@@ -58,7 +70,7 @@ fn larger(a: u64, b: u64) -> u64
 
 // How many of n items of class c, with their headers from `first` on, are in use.
 fn count_held(w: usize, h: &[u8], first: Position, c: usize, n: usize) -> u64
-    requires { ⌜ Width w × (c < 4 * w) × (n ≤ 4097) × (first .0 + n * itemSize (shape w) c ≤ length (now h)) ⌝ }
+    requires { ⌜ Width w × (c < shape w .classes) × (n ≡ shape w .perPage c) × (first .0 + n * itemSize (shape w) c ≤ length (now h)) ⌝ }
     ensures { λ r. ⌜ (r ≡ heldFrom w (now (h .entry)) c (first .0) n) × (r ≤ n) ⌝ }
 {
     let size = item_size(w, c);
@@ -67,7 +79,7 @@ fn count_held(w: usize, h: &[u8], first: Position, c: usize, n: usize) -> u64
     let mut held = 0;
     while left != 0 {
         let x = word(w, h, q.0);
-        held += one_if(x, 4 * c + 3);
+        held += one_if(x, held_header(c));
         q = Position(q.0 + size);
         left -= 1;
     }
@@ -79,7 +91,7 @@ fn page_at(w: usize, h: &[u8], p: Position) -> Page
     requires { ⌜ AtPage w (now h) (p .0) ⌝ }
     ensures { λ r. ⌜ ((c k : ℕ) (ss : List Slot) → PageAt w (now (h .entry)) (p .0) c k ss → PageTold r c ss) ⌝ }
 {
-    let first = Position(p.0 + w);
+    let first = first_item_at(w, p);
     let c = class_in(w, word(w, h, first.0));
     let n = items_in_page(w, c);
     let held = count_held(w, h, first, c, n);
@@ -107,16 +119,18 @@ pub fn nothing_counted() -> Statistics
 // What was counted, and the block with tag t at p.
 fn with_block(w: usize, h: &[u8], p: Position, t: usize, s: Statistics) -> Statistics
     requires { ⌜ Going w counted (now h) (p .0) (told s) × (t ≡ wordAt w (now h) (p .0)) × (p .0 < endOf (length (now h))) ⌝ }
-    ensures { λ r. ⌜ Going w counted (now (h .entry)) (p .0 + t / 8 * 8) (told r) ⌝ }
+    ensures { λ r. ⌜ Going w counted (now (h .entry)) (p .0 + sizeIn t) (told r) ⌝ }
 {
+    let kind = kind_in(t);
     let mut r = s;
-    if t % 8 == 0 {
-        r.free_bytes += (t / 8 * 8) as u64;
+    if kind == FREE {
+        let size = size_in(t) as u64;
+        r.free_bytes += size;
         r.free_blocks += 1;
-        r.largest_free = larger(r.largest_free, (t / 8 * 8) as u64);
+        r.largest_free = larger(r.largest_free, size);
         return r;
     }
-    if t % 8 == 2 {
+    if kind == VARIABLE {
         r.variables += 1;
         return r;
     }
@@ -131,13 +145,13 @@ pub fn count(w: usize, h: &[u8]) -> Statistics
     requires { ⌜ Width w × Sound (shape w) (now h) ⌝ }
     ensures { λ r. ⌜ ((L : Layout) → Here (shape w) (now (h .entry)) L → told r ≡ counted (L .blocks)) ⌝ }
 {
-    let end = h.len() / 8 * 8;
+    let end = end_of(h.len());
     let mut s = nothing_counted();
-    let mut p = Position(start(w));
-    while p.0 < end {
+    let mut p = start(w);
+    while p.0 < end.0 {
         let t = word(w, h, p.0);
         s = with_block(w, h, p, t, s);
-        p = Position(p.0 + t / 8 * 8);
+        p = Position(p.0 + size_in(t));
     }
     s
 }
@@ -150,23 +164,24 @@ fn with_page(row: [u64; 3], held: u64, idle: u64) -> [u64; 3]
     [row[0] + 1, row[1] + held, row[2] + idle]
 }
 
-// The table of classes of a sound heap: for each, its pages, its items in use and its free items. It has 32 rows, and those of classes that there are not are 0.
-pub fn tabulate(w: usize, h: &[u8]) -> [[u64; 3]; 32]
+// The table of classes of a sound heap: for each, its pages, its items in use and its free items. Rows of classes that there are not are 0.
+pub fn tabulate(w: usize, h: &[u8]) -> [[u64; 3]; ROWS]
     requires { ⌜ Width w × Sound (shape w) (now h) ⌝ }
-    ensures { λ r. ⌜ ((L : Layout) → Here (shape w) (now (h .entry)) L → r ≡ rowsFrom 32 0 (L .blocks)) ⌝ }
+    ensures { λ r. ⌜ ((L : Layout) → Here (shape w) (now (h .entry)) L → r ≡ rowsFrom tableRows 0 (L .blocks)) ⌝ }
 {
-    let end = h.len() / 8 * 8;
-    let mut rows = [[0u64; 3]; 32];
-    let mut p = Position(start(w));
-    while p.0 < end {
+    let end = end_of(h.len());
+    let mut rows = [[0u64; 3]; ROWS];
+    let mut p = start(w);
+    while p.0 < end.0 {
         let t = word(w, h, p.0);
-        if t % 8 == 3 {
+        let next = Position(p.0 + size_in(t));
+        if kind_in(t) == PAGE {
             let page = page_at(w, h, p);
             let c = page.class;
             rows[c] = with_page(rows[c], page.held, page.idle);
-            p = Position(p.0 + t / 8 * 8);
+            p = next;
         } else {
-            p = Position(p.0 + t / 8 * 8);
+            p = next;
         }
     }
     rows

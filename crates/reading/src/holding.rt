@@ -2,6 +2,8 @@
 use find::Live;
 use find::find;
 use model::Address;
+use model::block_capacity;
+use model::item_capacity;
 ghost use Rattle.words.specs.Width.{Width};
 ghost use Rattle.model.specs.Shape.{shape};
 ghost use Rattle.model.specs.Sound.{Sound};
@@ -15,7 +17,7 @@ pub fn capacity(w: usize, h: &[u8], a: Address) -> usize
     let x = find(w, h, a);
     match x {
         Live::Nothing => 0,
-        Live::Item(_, c) => 8 * c + 8,
-        Live::Variable(b) => b.size - 2 * w,
+        Live::Item(_, c) => item_capacity(w, c),
+        Live::Variable(b) => block_capacity(w, b.size),
     }
 }

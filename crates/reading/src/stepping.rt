@@ -1,6 +1,14 @@
 // A step of a walk: what block begins at a position, known by a walk from the data area's start.
+use model::FREE;
 use model::Position;
+use model::VARIABLE;
 use model::class_in;
+use model::end_of;
+use model::first_item_at;
+use model::kind_in;
+use model::next_at;
+use model::previous_at;
+use model::size_in;
 use model::start;
 use words::word;
 ghost use mathlib.Core.Path.{_≡_};
@@ -19,8 +27,8 @@ pub enum Kind {
     End,
 }
 
-// A block: where it stands, its whole size, and what it is.
-pub struct Block {
+// A walk's answer: where the block stands, its whole size, and what it is.
+pub struct MetBlock {
     pub position: Position,
     pub size: usize,
     pub kind: Kind,
@@ -31,22 +39,22 @@ fn starts(w: usize, h: &[u8], at: Position) -> bool
     requires { ⌜ Width w × Sound (shape w) (now h) ⌝ }
     ensures { λ r. ⌜ StartTold w (now (h .entry)) (at .0) r ⌝ }
 {
-    if h.len() / 8 * 8 <= at.0 {
+    if end_of(h.len()).0 <= at.0 {
         return false;
     }
-    let mut p = Position(start(w));
+    let mut p = start(w);
     while p.0 < at.0 {
         let t = word(w, h, p.0);
-        p = Position(p.0 + t / 8 * 8);
+        p = Position(p.0 + size_in(t));
     }
     p.0 == at.0
 }
 
 // No block: position and size are 0.
-pub fn no_block() -> Block
+pub fn no_block() -> MetBlock
     ensures { λ r. ⌜ (r .size ≡ 0) × ((w at : ℕ) → toldBlock at r ≡ ended (shape w) at) ⌝ }
 {
-    Block {
+    MetBlock {
         position: Position(0),
         size: 0,
         kind: Kind::End,
@@ -54,7 +62,7 @@ pub fn no_block() -> Block
 }
 
 // The block that begins at `at`, or none.
-pub fn meet(w: usize, h: &[u8], at: Position) -> Block
+pub fn meet(w: usize, h: &[u8], at: Position) -> MetBlock
     requires { ⌜ Width w × Sound (shape w) (now h) ⌝ }
     ensures { λ r. ⌜ Meets w (now (h .entry)) (at .0) r ⌝ }
 {
@@ -62,11 +70,12 @@ pub fn meet(w: usize, h: &[u8], at: Position) -> Block
         return no_block();
     }
     let t = word(w, h, at.0);
-    let size = t / 8 * 8;
-    if t % 8 == 0 {
-        let next = word(w, h, at.0 + w);
-        let previous = word(w, h, at.0 + size - 2 * w);
-        return Block {
+    let size = size_in(t);
+    let kind = kind_in(t);
+    if kind == FREE {
+        let next = word(w, h, next_at(w, at).0);
+        let previous = word(w, h, previous_at(w, at, size).0);
+        return MetBlock {
             position: at,
             size: size,
             kind: Kind::Free {
@@ -75,15 +84,15 @@ pub fn meet(w: usize, h: &[u8], at: Position) -> Block
             },
         };
     }
-    if t % 8 == 2 {
-        return Block {
+    if kind == VARIABLE {
+        return MetBlock {
             position: at,
             size: size,
             kind: Kind::Variable,
         };
     }
-    let class = class_in(w, word(w, h, at.0 + w));
-    Block {
+    let class = class_in(w, word(w, h, first_item_at(w, at).0));
+    MetBlock {
         position: at,
         size: size,
         kind: Kind::Page { class: class },

@@ -1,4 +1,4 @@
-use Rattle.reading.proofs.ReadingLaws.{Held, held-start, held-inside, held-next, held-again, held-done}
+use Rattle.reading.proofs.ReadingLaws.{Held, held-start, held-inside, held-next, held-again, held-bound, held-done}
 use borrow.Author.Needs.{needs}
 use native.Mathlib.Omega.{arith}
 use Rattle.reading.proofs.counting.count_held.Statement.{statement}
@@ -19,25 +19,22 @@ item-size-requires : tie.Need-item-size-requires Inv-loop μ-loop
 item-size-requires c κs = search needs
 
 loop-holds : tie.Need-loop-holds Inv-loop μ-loop
-loop-holds c = held-start (c .before .before .pre .0) _ _ _ _ _ (omega arith) (omega arith) (c .before .before .pre .3) (c .item-size .ensures)
+loop-holds c = held-start (c .before .before .pre .0) _ _ _ _ _ (c .before .before .pre .1) (c .before .before .pre .2) (c .before .before .pre .3) (c .item-size .ensures)
 
 word-requires : tie.Need-word-requires Inv-loop μ-loop
 word-requires c κs = omega (arith, held-inside (c .before .loop .inv) (c .loop-test .taken))
 
-mul-one-if : tie.Need-mul-one-if Inv-loop μ-loop
-mul-one-if c = search needs
-
-add-one-if : tie.Need-add-one-if Inv-loop μ-loop
-add-one-if c = search needs
+held-header-requires : tie.Need-held-header-requires Inv-loop μ-loop
+held-header-requires c κs = search needs
 
 one-if-requires : tie.Need-one-if-requires Inv-loop μ-loop
 one-if-requires c κs = search needs
 
 add-held : tie.Need-add-held Inv-loop μ-loop
-add-held c = omega (arith, held-again (c .before .before .before .loop .inv) (c .before .before .loop-test .taken) _ _ (c .before .word .ensures) (c .one-if .ensures))
+add-held c = omega (arith, held-bound (held-again (c .before .before .before .before .loop .inv) (c .before .before .before .loop-test .taken) _ _ _ (c .before .before .word .ensures) (c .before .held-header .ensures) (c .one-if .ensures)))
 
 add-t13 : tie.Need-add-t13 Inv-loop μ-loop
-add-t13 c = omega (arith, held-next (c .before .before .before .before .loop .inv) (c .before .before .before .loop-test .taken))
+add-t13 c = omega (arith, held-next (c .before .before .before .before .before .loop .inv) (c .before .before .before .before .loop-test .taken))
 
 sub-left : tie.Need-sub-left Inv-loop μ-loop
 sub-left c = search needs
@@ -46,7 +43,7 @@ loop-less : tie.Need-loop-less Inv-loop μ-loop
 loop-less c = search needs
 
 loop-again : tie.Need-loop-again Inv-loop μ-loop
-loop-again c = held-again (c .before .before .before .before .loop .inv) (c .before .before .before .loop-test .taken) _ _ (c .before .before .word .ensures) (c .before .one-if .ensures)
+loop-again c = held-again (c .before .before .before .before .before .loop .inv) (c .before .before .before .before .loop-test .taken) _ _ _ (c .before .before .before .word .ensures) (c .before .before .held-header .ensures) (c .before .one-if .ensures)
 
 returns : tie.Need-returns Inv-loop μ-loop
 returns c = held-done (c .before .loop .inv) (c .loop-test .left)
@@ -60,8 +57,7 @@ count-held-spec =
     item-size-requires
     loop-holds
     word-requires
-    mul-one-if
-    add-one-if
+    held-header-requires
     one-if-requires
     add-held
     add-t13

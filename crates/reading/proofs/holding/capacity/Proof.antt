@@ -16,29 +16,23 @@ enum-told c = search needs
 enum-known-x : tie.Need-enum-known-x
 enum-known-x c = search needs
 
-mul-result : tie.Need-mul-result
-mul-result c = omega (arith, item-fits (c .before .before .before .before .before .pre .0) _ _ (c .before .before .before .before .before .pre .1) _ (c .before .before .before .find .ensures) _ _ (c .before .x .given .1))
-
-add-result : tie.Need-add-result
-add-result c = omega (arith, item-fits (c .before .before .before .before .before .pre .0) _ _ (c .before .before .before .before .before .pre .1) _ (c .before .before .before .find .ensures) _ _ (c .before .x .given .1))
+item-capacity-requires : tie.Need-item-capacity-requires
+item-capacity-requires c κs = omega (arith, c .before .before .before .before .before .pre .0, item-fits (c .before .before .before .before .before .pre .0) _ _ (c .before .before .before .before .before .pre .1) _ (c .before .before .before .find .ensures) _ _ (c .before .x .given .1))
 
 enum-known-x-2 : tie.Need-enum-known-x-2
 enum-known-x-2 c = search needs
 
-mul-result-2 : tie.Need-mul-result-2
-mul-result-2 c = search needs
-
-sub-result : tie.Need-sub-result
-sub-result c = omega (arith, block-fits (c .before .before .before .before .before .before .pre .0) _ _ (c .before .before .before .before .before .before .pre .1) _ (c .before .before .before .before .find .ensures) _ (c .before .before .x2 .given .1))
+block-capacity-requires : tie.Need-block-capacity-requires
+block-capacity-requires c κs = omega (arith, c .before .before .before .before .before .pre .0, block-fits (c .before .before .before .before .before .pre .0) _ _ (c .before .before .before .before .before .pre .1) _ (c .before .before .before .find .ensures) _ (c .before .x2 .given .1))
 
 returns : tie.Need-returns
 returns c = holds-none (c .before .before .before .before .pre .0) _ _ (c .before .before .before .before .pre .1) _ (c .before .before .find .ensures) (c .enum-told .given .1)
 
 returns-2 : tie.Need-returns-2
-returns-2 c = holds-item (c .before .before .before .before .before .pre .0) _ _ (c .before .before .before .before .before .pre .1) _ (c .before .before .before .find .ensures) _ _ (c .before .x .given .1)
+returns-2 c = holds-item (c .before .before .before .before .before .before .pre .0) _ _ (c .before .before .before .before .before .before .pre .1) _ (c .before .before .before .before .find .ensures) _ _ (c .before .before .x .given .1) _ (c .item-capacity .ensures)
 
 returns-3 : tie.Need-returns-3
-returns-3 c = holds-block (c .before .before .before .before .before .before .pre .0) _ _ (c .before .before .before .before .before .before .pre .1) _ (c .before .before .before .before .find .ensures) _ (c .before .before .x2 .given .1)
+returns-3 c = holds-block (c .before .before .before .before .before .before .pre .0) _ _ (c .before .before .before .before .before .before .pre .1) _ (c .before .before .before .before .find .ensures) _ (c .before .before .x2 .given .1) _ (c .block-capacity .ensures)
 
 pub capacity-spec : {M : Type 1} → statement M
 capacity-spec =
@@ -47,11 +41,9 @@ capacity-spec =
     find-requires
     enum-told
     enum-known-x
-    mul-result
-    add-result
+    item-capacity-requires
     enum-known-x-2
-    mul-result-2
-    sub-result
+    block-capacity-requires
     returns
     returns-2
     returns-3)

@@ -1,6 +1,7 @@
-use Prim.Native.Nat.{_+_, _*_, _/_, _≤_, _<_}
+use Prim.Native.Nat.{_+_, _≤_, _<_}
 use lib.ListN.{length}
-use Rattle.model.specs.Shape.{endOf}
+use Rattle.model.specs.Shape.{shape, leastFree, endOf}
+use Rattle.model.specs.Parts.{sizeIn}
 use Rattle.reading.specs.Stepping.{Towards}
 use Rattle.reading.proofs.SteppingLaws.{toward-inside, met-free, met-variable, met-page}
 use borrow.Author.Tests.{not-true, not-false}
@@ -29,50 +30,47 @@ returns c = record { answer = λ L h. c .no-block .ensures .1 (c .before .before
 reached : (c : tie.Else1) → Towards (c .before .before .before .args .w) (c .before .before .before .args .h .now) (c .before .before .before .args .at .0) (c .before .before .before .args .at .0) × (c .before .before .before .args .at .0 < endOf (length (c .before .before .before .args .h .now)))
 reached c = c .before .starts .ensures .met (not-false _ (c .if1 .left))
 
-extent : (c : tie.After-word) → (4 * c .before .before .before .before .args .w ≤ c .word .result / 8 * 8) × (c .before .before .before .before .args .at .0 + c .word .result / 8 * 8 ≤ endOf (length (c .before .before .before .before .args .h .now)))
+extent : (c : tie.After-word) → (leastFree (shape (c .before .before .before .before .args .w)) ≤ sizeIn (c .word .result)) × (c .before .before .before .before .args .at .0 + sizeIn (c .word .result) ≤ endOf (length (c .before .before .before .before .args .h .now)))
 extent c = toward-inside (reached (c .before) .0) _ (c .word .ensures) (reached (c .before) .1)
 
 word-requires : tie.Need-word-requires
 word-requires c κs = omega (arith, toward-inside (reached c .0) _ refl (reached c .1))
 
-mul-size : tie.Need-mul-size
-mul-size c = search needs
+size-in-requires : tie.Need-size-in-requires
+size-in-requires c κs = search needs
 
-add-word : tie.Need-add-word
-add-word c = omega (arith, extent (c .before .before))
+kind-in-requires : tie.Need-kind-in-requires
+kind-in-requires c κs = search needs
+
+next-at-requires : tie.Need-next-at-requires
+next-at-requires c κs = omega (arith, c .before .before .before .before .before .before .before .pre .0, extent (c .before .before .before))
 
 word-requires-2 : tie.Need-word-requires-2
-word-requires-2 c κs = omega (arith, extent (c .before .before))
+word-requires-2 c κs = omega (arith, extent (c .before .before .before .before))
 
-add-word-2 : tie.Need-add-word-2
-add-word-2 c = omega (arith, extent (c .before .before .before .before))
-
-mul-word : tie.Need-mul-word
-mul-word c = search needs
-
-sub-word : tie.Need-sub-word
-sub-word c = omega (arith, extent (c .before .before .before .before))
+previous-at-requires : tie.Need-previous-at-requires
+previous-at-requires c κs = omega (arith, c .before .before .before .before .before .before .before .before .before .pre .0, extent (c .before .before .before .before .before))
 
 word-requires-3 : tie.Need-word-requires-3
-word-requires-3 c κs = omega (arith, extent (c .before .before .before .before))
+word-requires-3 c κs = omega (arith, extent (c .before .before .before .before .before .before))
 
 returns-2 : tie.Need-returns-2
-returns-2 c = record { answer = λ L h. met-free (reached (c .before .before .before .before .before .before) .0) _ (c .before .before .before .before .before .word .ensures) (reached (c .before .before .before .before .before .before) .1) L h (c .before .before .before .before .if2 .taken) _ _ (c .before .before .word2 .ensures) (c .word3 .ensures); fits = omega (arith, extent (c .before .before .before .before .before)) }
+returns-2 c = record { answer = λ L h. met-free (reached (c .before .before .before .before .before .before .before .before) .0) _ (c .before .before .before .before .before .before .before .word .ensures) (reached (c .before .before .before .before .before .before .before .before) .1) _ (c .before .before .before .before .before .before .size-in .ensures) L h (omega arith) _ _ (rw (c .before .before .before .next-at .ensures) at (c .before .before .word2 .ensures)) (rw (c .before .previous-at .ensures) at (c .word3 .ensures)); fits = omega (arith, extent (c .before .before .before .before .before .before .before)) }
 
 returns-3 : tie.Need-returns-3
-returns-3 c = record { answer = λ L h. met-variable (reached (c .before .before .before) .0) _ (c .before .before .word .ensures) (reached (c .before .before .before) .1) L h (c .if3 .taken); fits = omega (arith, extent (c .before .before)) }
+returns-3 c = record { answer = λ L h. met-variable (reached (c .before .before .before .before .before) .0) _ (c .before .before .before .before .word .ensures) (reached (c .before .before .before .before .before) .1) _ (c .before .before .before .size-in .ensures) L h (omega arith); fits = omega (arith, extent (c .before .before .before .before)) }
 
-add-word-3 : tie.Need-add-word-3
-add-word-3 c = omega (arith, extent (c .before .before .before))
+first-item-at-requires : tie.Need-first-item-at-requires
+first-item-at-requires c κs = omega (arith, c .before .before .before .before .before .before .before .before .pre .0, extent (c .before .before .before .before))
 
 word-requires-4 : tie.Need-word-requires-4
-word-requires-4 c κs = omega (arith, extent (c .before .before .before))
+word-requires-4 c κs = omega (arith, extent (c .before .before .before .before .before))
 
 class-in-requires : tie.Need-class-in-requires
 class-in-requires c κs = search needs
 
 returns-4 : tie.Need-returns-4
-returns-4 c = record { answer = λ L h. met-page (reached (c .before .before .before .before .before .before) .0) _ (c .before .before .before .before .before .word .ensures) (reached (c .before .before .before .before .before .before) .1) L h (c .before .before .before .before .if2 .left) (c .before .before .before .if3 .left) _ _ (c .before .word4 .ensures) (c .class-in .ensures .0); fits = omega (arith, extent (c .before .before .before .before .before)) }
+returns-4 c = record { answer = λ L h. met-page (reached (c .before .before .before .before .before .before .before .before) .0) _ (c .before .before .before .before .before .before .before .word .ensures) (reached (c .before .before .before .before .before .before .before .before) .1) _ (c .before .before .before .before .before .before .size-in .ensures) L h (λ z. c .before .before .before .before .if2 .left (c .before .before .before .before .before .kind-in .ensures ∙ z)) (λ z. c .before .before .before .if3 .left (c .before .before .before .before .before .kind-in .ensures ∙ z)) _ _ (rw (c .before .before .first-item-at .ensures) at (c .before .word4 .ensures)) (c .class-in .ensures .0); fits = omega (arith, extent (c .before .before .before .before .before .before .before)) }
 
 pub meet-spec : {M : Type 1} → statement M
 meet-spec =
@@ -82,16 +80,15 @@ meet-spec =
     no-block-requires
     returns
     word-requires
-    mul-size
-    add-word
+    size-in-requires
+    kind-in-requires
+    next-at-requires
     word-requires-2
-    add-word-2
-    mul-word
-    sub-word
+    previous-at-requires
     word-requires-3
     returns-2
     returns-3
-    add-word-3
+    first-item-at-requires
     word-requires-4
     class-in-requires
     returns-4)

@@ -19,32 +19,32 @@ Inv-loop w h at p₀ p = Towards w h (at .0) (p .0) × (at .0 < endOf (length h)
 abbrev μ-loop : tie.MeasureT-loop
 μ-loop w h at p₀ p = at .0 - p .0
 
-mul-if1 : tie.Need-mul-if1 Inv-loop μ-loop
-mul-if1 c = search needs
+end-of-requires : tie.Need-end-of-requires Inv-loop μ-loop
+end-of-requires c κs = search needs
 
 returns : tie.Need-returns Inv-loop μ-loop
-returns c = start-none (c .before .before .before .pre .0) _ _ (omega arith)
+returns c = start-none (c .before .before .before .before .before .pre .0) _ _ (omega arith)
 
 start-requires : tie.Need-start-requires Inv-loop μ-loop
 start-requires c κs = search needs
 
 loop-holds : tie.Need-loop-holds Inv-loop μ-loop
-loop-holds c = (toward-start (c .before .before .before .before .pre .0) _ _ _ (c .start .ensures) (c .before .before .before .before .pre .1), omega arith)
+loop-holds c = (toward-start (c .before .before .before .before .before .before .pre .0) _ _ _ (c .start .ensures) (c .before .before .before .before .before .before .pre .1), omega arith)
 
 word-requires : tie.Need-word-requires Inv-loop μ-loop
 word-requires c κs = omega (arith, toward-inside (c .before .before .before .loop .inv .0) _ refl (omega arith))
 
-mul-t12 : tie.Need-mul-t12 Inv-loop μ-loop
-mul-t12 c = search needs
+size-in-requires : tie.Need-size-in-requires Inv-loop μ-loop
+size-in-requires c κs = search needs
 
-add-t13 : tie.Need-add-t13 Inv-loop μ-loop
-add-t13 c = omega (arith, toward-inside (c .before .before .before .before .before .loop .inv .0) _ (c .before .word .ensures) (omega arith))
+add-t11 : tie.Need-add-t11 Inv-loop μ-loop
+add-t11 c = omega (arith, toward-inside (c .before .before .before .before .before .before .loop .inv .0) _ (c .before .before .word .ensures) (omega arith))
 
 loop-less : tie.Need-loop-less Inv-loop μ-loop
-loop-less c = omega (arith, toward-inside (c .before .before .before .before .before .loop .inv .0) _ (c .before .word .ensures) (omega arith))
+loop-less c = omega (arith, toward-inside (c .before .before .before .before .before .before .loop .inv .0) _ (c .before .before .word .ensures) (omega arith))
 
 loop-again : tie.Need-loop-again Inv-loop μ-loop
-loop-again c = (toward-on (c .before .before .before .before .before .loop .inv .0) _ (c .before .word .ensures) (omega arith) (omega arith), omega arith)
+loop-again c = (toward-on (c .before .before .before .before .before .before .loop .inv .0) _ (c .before .before .word .ensures) (omega arith) (omega arith) _ (c .before .size-in .ensures), omega arith)
 
 returns-2 : tie.Need-returns-2 Inv-loop μ-loop
 returns-2 c = start-told (c .before .before .before .before .before .loop .inv .0) (omega arith) (c .before .before .before .before .before .loop .inv .1)
@@ -55,13 +55,13 @@ starts-spec =
     (tie.spec
     Inv-loop
     μ-loop
-    mul-if1
+    end-of-requires
     returns
     start-requires
     loop-holds
     word-requires
-    mul-t12
-    add-t13
+    size-in-requires
+    add-t11
     loop-less
     loop-again
     returns-2)
