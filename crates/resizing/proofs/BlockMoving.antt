@@ -15,20 +15,20 @@ use Rattle.model.specs.inner.Links.{backOf}
 use Rattle.model.proofs.Good.{shape-good}
 use Rattle.model.proofs.walks.Finding.{block-found}
 use Rattle.model.proofs.blocks.Mending.{allocate-mends}
-use Rattle.model.specs.inner.Walks.{Stands, Mend}
-use Rattle.find.specs.declared.Block.{Block}
+use Rattle.model.specs.inner.Walks.{flag, Stands, Mend}
+use Rattle.find.specs.declared.VariableBlock.{VariableBlock}
 use Rattle.engine.specs.declared.allocate.Taken.{Taken}
 use Rattle.engine.specs.declared.allocate.Taken.the-variants.{At}
 use Rattle.resizing.specs.declared.resize.Resized.the-variants as to
 use Rattle.engine.specs.Allocate.{Asked}
 use Rattle.find.specs.Find.{BlockFound}
 use Rattle.engine.specs.Release.{BlockLive, Released}
-use Rattle.resizing.specs.Move.{Carried, BlockAt, Moves}
+use Rattle.resizing.specs.Move.{Carried, BlockLiveAt, Moves}
 use Rattle.resizing.specs.Mend.{Mendable, Mended}
 use Rattle.resizing.proofs.ResizeLaws.{chosen, carried-in, moved-to, block-holds}
 use Rattle.resizing.proofs.MendLaws.{found-stands, stands-found, read-before}
 
-module _ {w : ℕ} {b : List ℕ} {a n : ℕ} {x : Block} (i : BlockAt w b a x) {t : Taken} {c : List ℕ} (g : Carried w b a (x .size - 2 * w) n t c) (s : Asked w n) (new : Address) (e : t ≡ At new) (r before : ℕ) (er : r ≡ backOf (shape w) b (x .prev .0)) (eb : before ≡ wordAt w b r) where
+module _ {w : ℕ} {b : List ℕ} {a n : ℕ} {x : VariableBlock} (i : BlockLiveAt w b a x) {t : Taken} {c : List ℕ} (g : Carried w b a (x .size - 2 * w) n t c) (s : Asked w n) (new : Address) (e : t ≡ At new) (r before : ℕ) (er : r ≡ backOf (shape w) b (x .prev .0)) (eb : before ≡ wordAt w b r) where
   after : (L : Layout) → Here (shape w) b L → Layout
   after L h = chosen g (block-holds i) s new e L h .0 .layout
 
@@ -36,21 +36,21 @@ module _ {w : ℕ} {b : List ℕ} {a n : ℕ} {x : Block} (i : BlockAt w b a x) 
   unfolding after
   here-after L h = carried-in g (block-holds i) s new e L h
 
-  mends : (L : Layout) (h : Here (shape w) b L) → Mend (shape w) (after L h) (x .at .0) (x .size) (x .prev .0) (x .left) before
+  mends : (L : Layout) (h : Here (shape w) b L) → Mend (shape w) (after L h) (x .at .0) (x .size) (x .prev .0) (flag (x .touching)) before
   unfolding after
   mends L h =
       let m = chosen g (block-holds i) s new e L h in
-      allocate-mends (shape w) (shape-good (i .ready .width)) (endOf (length b)) n L (h .valid) (x .at .0) (x .size) (x .prev .0) (x .left) before (found-stands (i .ready .width) b L a (i .is L h .0) x h (i .is L h .1)) (read-before i r before er eb L h) (m .0) (m .1)
+      allocate-mends (shape w) (shape-good (i .ready .width)) (endOf (length b)) n L (h .valid) (x .at .0) (x .size) (x .prev .0) (flag (x .touching)) before (found-stands (i .ready .width) b L a (i .is L h .0) x h (i .is L h .1)) (read-before i r before er eb L h) (m .0) (m .1)
 
   pub mendable : Mendable w c x before
   mendable = let L = i .ready .sound .layout in let h = i .ready .sound .here in record { width = i .ready .width; layout = after L h; here = here-after L h; mend = mends L h }
 
-  module _ {y : Block} (y′ : Mended w c x before y) where
+  module _ {y : VariableBlock} (y′ : Mended w c x before y) where
     again : (L : Layout) (h : Here (shape w) b L) → (t : Spot) × BlockFound w (after L h) a t y
     again L h =
         let f = i .is L h in
         let k = block-found (shape w) (shape-good (i .ready .width)) a (start (shape w)) (L .blocks) (f .0) (f .1 .found) in
-        let st : Stands (shape w) (after L h) (x .at .0) (x .size) (y .prev .0) (y .left) = y′ .stands (after L h) (here-after L h) (mends L h) in
+        let st : Stands (shape w) (after L h) (x .at .0) (x .size) (y .prev .0) (flag (y .touching)) = y′ .stands (after L h) (here-after L h) (mends L h) in
         stands-found (i .ready .width) c (after L h) a y (here-after L h) (omega (arith, k .at, f .1 .at, y′ .at)) (rw (y′ .at, y′ .size) st)
 
     pub found-again : length c ≡ length b → BlockLive w c y

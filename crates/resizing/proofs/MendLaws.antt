@@ -1,6 +1,7 @@
 -- The free block before a variable block, found again: what the tags say after an allocation.
 use Prim.Native.Nat.{ℕ, _+_, _-_, _*_, _/_, _%_, _≤_}
 use mathlib.Core.Path.{_≡_, refl, sym, ap, subst, _∙_}
+use mathlib.Core.Bool.{false}
 use mathlib.Core.List.{List, [], _∷_, _++_, append-assoc, append-nil}
 use mathlib.Core.Logic.{_⊎_, inl, inr, ⊎-elim}
 use native.Mathlib.Omega.{arith}
@@ -10,21 +11,22 @@ use borrow.Author.Tests.{eq-eqb, ne-eqb}
 use Rattle.words.specs.Width.{Width}
 use Rattle.words.specs.Word.{wordAt}
 use Rattle.model.specs.Shape.{shape, start}
+use Rattle.model.specs.Parts.{freeKind, sizeIn, kindIn}
 use Rattle.model.specs.Layout.{Use, variable, page, Block, free, used, Layout, useSize, sizeOf, ends, firstFree}
 use Rattle.model.specs.Sound.{AllAllowed, Here}
 use Rattle.model.specs.Rules.{Spot, Found, block, find, findFrom}
 use Rattle.model.proofs.Good.{shape-good}
 use Rattle.model.proofs.blocks.Blocks.{ends-append, le-ends, allowed-left}
-use Rattle.model.specs.inner.Walks.{lastFree, Stands, Mend}
+use Rattle.model.specs.inner.Walks.{flag, lastFree, Stands, Mend}
 use Rattle.model.proofs.blocks.Middle.{middle-at, free-read}
 use Rattle.model.specs.inner.Links.{backOf}
 use Rattle.model.proofs.walks.Standing.{Met, met, blockTag}
 use Rattle.model.proofs.walks.Finding.{behinds, find-past, find-at}
 use Rattle.model.proofs.blocks.Mending.{NoFree, Last, last-of, Before}
-use Rattle.find.specs.declared.Block as seen
+use Rattle.find.specs.declared.VariableBlock.{VariableBlock}
 use Rattle.links.specs.Links.{BackRoom}
 use Rattle.find.specs.Find.{BlockFound}
-use Rattle.resizing.specs.Move.{BlockAt}
+use Rattle.resizing.specs.Move.{BlockLiveAt}
 use Rattle.resizing.specs.Mend.{Mendable, Mended}
 use Rattle.engine.proofs.ReleaseLaws.{blocks-are}
 
@@ -118,56 +120,58 @@ module _ {w : ℕ} (wd : Width w) {b : List ℕ} {L : Layout} (h : Here (shape w
   none-before p s prev left before (inr (inr k)) z = absurd (omega (arith, k .at, le-ends (shape w) (start (shape w)) (k .low)))
 
 -- each way through mend
-module _ {w : ℕ} {b : List ℕ} {x : seen.Block} {before : ℕ} (k : Mendable w b x before) where
+module _ {w : ℕ} {b : List ℕ} {x : VariableBlock} {before : ℕ} (k : Mendable w b x before) where
   pub none-taken : x .prev .0 ≡ 0 → Mended w b x before x
-  none-taken z = record { at = refl; size = refl; stands = λ L h m. none-before (k .width) h (x .at .0) (x .size) (x .prev .0) (x .left) before m z }
+  none-taken z = record { at = refl; size = refl; stands = λ L h m. none-before (k .width) h (x .at .0) (x .size) (x .prev .0) (flag (x .touching)) before m z }
 
   module _ (z : x .prev .0 ≡ 0 → ⊥) where
     pub prev-room : x .prev .0 + 4 * w ≤ length b
     prev-room =
         ⊎-elim (λ g. g .room) (λ g. ⊎-elim (λ f. f .room) (λ f. f .room) g)
-        (inspect (k .width) (k .here) (x .at .0) (x .size) (x .prev .0) (x .left) before (wordAt w b (x .prev .0)) (k .mend) z refl)
+        (inspect (k .width) (k .here) (x .at .0) (x .size) (x .prev .0) (flag (x .touching)) before (wordAt w b (x .prev .0)) (k .mend) z refl)
 
     module _ (t : ℕ) (e : t ≡ wordAt w b (x .prev .0)) where
-      pub still-free : t % 8 ≡ 0 → Mended w b x before x
+      pub still-free : kindIn t ≡ freeKind → Mended w b x before x
       still-free y =
           record {
             at = refl;
             size = refl;
             stands = λ L h m.
-                ⊎-elim (λ g. g .stands) (λ g. ⊎-elim (λ f. absurd (f .taken y)) (λ f. absurd (f .taken y)) g) (inspect (k .width) h (x .at .0) (x .size) (x .prev .0) (x .left) before t m z e);
+                ⊎-elim (λ g. g .stands) (λ g. ⊎-elim (λ f. absurd (f .taken y)) (λ f. absurd (f .taken y)) g) (inspect (k .width) h (x .at .0) (x .size) (x .prev .0) (flag (x .touching)) before t m z e);
           }
 
-      module _ (y : t % 8 ≡ 0 → ⊥) where
-        pub behind-room : x .prev .0 + t / 8 * 8 + w ≤ length b
+      module _ (y : kindIn t ≡ freeKind → ⊥) (s : ℕ) (es : s ≡ sizeIn t) where
+        pub behind-room : x .prev .0 + s + w ≤ length b
         behind-room =
-            ⊎-elim (λ g. absurd (y (g .free-there))) (λ g. ⊎-elim (λ f. f .next-room) (λ f. f .next-room) g)
-            (inspect (k .width) (k .here) (x .at .0) (x .size) (x .prev .0) (x .left) before t (k .mend) z e)
+            rw es
+            (⊎-elim (λ g. absurd (y (g .free-there))) (λ g. ⊎-elim (λ f. f .next-room) (λ f. f .next-room) g)
+            (inspect (k .width) (k .here) (x .at .0) (x .size) (x .prev .0) (flag (x .touching)) before t (k .mend) z e))
 
-        module _ (r : ℕ) (er : r ≡ wordAt w b (x .prev .0 + t / 8 * 8)) where
-          pub rest-free : r % 8 ≡ 0 → Mended w b x before (record { at = x .at; size = x .size; prev = record { 0 = x .prev .0 + t / 8 * 8 }; left = x .left })
+        module _ (r : ℕ) (er : r ≡ wordAt w b (x .prev .0 + s)) where
+          pub rest-free : kindIn r ≡ freeKind → Mended w b x before (record { at = x .at; size = x .size; prev = record { 0 = x .prev .0 + s }; touching = x .touching })
           rest-free f =
-              let v : wordAt w b (x .prev .0 + t / 8 * 8) % 8 ≡ 0 = ap (λ (v : ℕ). v % 8) (sym er) ∙ f in
-              record {
+              let v : wordAt w b (x .prev .0 + sizeIn t) % 8 ≡ 0 = ap (λ (v : ℕ). v % 8) (sym (rw es at er)) ∙ f in
+              rw es
+              (record {
                 at = refl;
                 size = refl;
                 stands = λ L h m.
                     ⊎-elim (λ g. absurd (y (g .free-there))) (λ g. ⊎-elim (λ j. j .stands) (λ j. absurd (j .no-rest v)) g)
-                    (inspect (k .width) h (x .at .0) (x .size) (x .prev .0) (x .left) before t m z e);
-              }
+                    (inspect (k .width) h (x .at .0) (x .size) (x .prev .0) (flag (x .touching)) before t m z e);
+              })
 
-          pub none-free : (r % 8 ≡ 0 → ⊥) → Mended w b x before (record { at = x .at; size = x .size; prev = record { 0 = before }; left = 0 })
+          pub none-free : (kindIn r ≡ freeKind → ⊥) → Mended w b x before (record { at = x .at; size = x .size; prev = record { 0 = before }; touching = false })
           none-free f =
               record {
                 at = refl;
                 size = refl;
                 stands = λ L h m.
-                    ⊎-elim (λ g. absurd (y (g .free-there))) (λ g. ⊎-elim (λ j. absurd (f (ap (λ (v : ℕ). v % 8) er ∙ j .rest))) (λ j. j .stands) g)
-                    (inspect (k .width) h (x .at .0) (x .size) (x .prev .0) (x .left) before t m z e);
+                    ⊎-elim (λ g. absurd (y (g .free-there))) (λ g. ⊎-elim (λ j. absurd (f (ap (λ (v : ℕ). v % 8) (rw es at er) ∙ j .rest))) (λ j. j .stands) g)
+                    (inspect (k .width) h (x .at .0) (x .size) (x .prev .0) (flag (x .touching)) before t m z e);
               }
 
 -- a block that was found stands there
-pub found-stands : {w : ℕ} → Width w → (b : List ℕ) (L : Layout) (a : ℕ) (t : Spot) (x : seen.Block) → Here (shape w) b L → BlockFound w L a t x → Stands (shape w) L (x .at .0) (x .size) (x .prev .0) (x .left)
+pub found-stands : {w : ℕ} → Width w → (b : List ℕ) (L : Layout) (a : ℕ) (t : Spot) (x : VariableBlock) → Here (shape w) b L → BlockFound w L a t x → Stands (shape w) L (x .at .0) (x .size) (x .prev .0) (flag (x .touching))
 found-stands wd b L a t x h f =
     record {
       pre = t .pre;
@@ -179,7 +183,7 @@ found-stands wd b L a t x h f =
     }
 
 -- and a block that stands there is found
-pub stands-found : {w : ℕ} → Width w → (b : List ℕ) (L : Layout) (a : ℕ) (x : seen.Block) → Here (shape w) b L → a ≡ x .at .0 + w → Stands (shape w) L (x .at .0) (x .size) (x .prev .0) (x .left) → (t : Spot) × BlockFound w L a t x
+pub stands-found : {w : ℕ} → Width w → (b : List ℕ) (L : Layout) (a : ℕ) (x : VariableBlock) → Here (shape w) b L → a ≡ x .at .0 + w → Stands (shape w) L (x .at .0) (x .size) (x .prev .0) (flag (x .touching)) → (t : Spot) × BlockFound w L a t x
 stands-found {w} wd b L a x h e k =
     let post : List Block = used (variable (x .size)) ∷ k .post in
     let all : AllAllowed (shape w) (k .pre ++ post) = subst (λ (l : List Block). AllAllowed (shape w) l) (k .blocks) (h .valid .allowed) in
@@ -198,8 +202,8 @@ stands-found {w} wd b L a x h e k =
     )
 
 -- what is read before the allocation: the free block before the one at prev
-module _ {w : ℕ} {b : List ℕ} {a : ℕ} {x : seen.Block} (i : BlockAt w b a x) where
-  stands-now : (L : Layout) → Here (shape w) b L → Stands (shape w) L (x .at .0) (x .size) (x .prev .0) (x .left)
+module _ {w : ℕ} {b : List ℕ} {a : ℕ} {x : VariableBlock} (i : BlockLiveAt w b a x) where
+  stands-now : (L : Layout) → Here (shape w) b L → Stands (shape w) L (x .at .0) (x .size) (x .prev .0) (flag (x .touching))
   stands-now L h = found-stands (i .ready .width) b L a (i .is L h .0) x h (i .is L h .1)
 
   pub prev-back : BackRoom w b (x .prev .0)

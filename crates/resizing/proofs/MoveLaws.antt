@@ -18,11 +18,10 @@ use Rattle.model.proofs.Good.{shape-good}
 use Rattle.model.proofs.lives.Payloads.{in-area}
 use Rattle.model.proofs.rules.Allocation.{Granted, allocate-grants}
 use Rattle.model.proofs.lives.Moving.{payloadOf, found-live, live-apart, copied-here}
-use Rattle.find.specs.declared.Block as seen
 use Rattle.engine.specs.declared.allocate.Taken.{Taken}
 use Rattle.engine.specs.declared.allocate.Taken.the-variants.{At, NoRoom}
 use Rattle.resizing.specs.declared.resize.Resized.the-variants as to
-use Rattle.engine.specs.Allocate.{Asked, takenOf, Allocates}
+use Rattle.engine.specs.Allocate.{Asked, takenOf, GivesSize}
 use Rattle.resizing.specs.Move.{Holding, Carried}
 
 -- what an answer says of the rule
@@ -70,7 +69,7 @@ module _ {w : ℕ} (b : List ℕ) (a k n : ℕ) (q : Holding w b a k) (s : Asked
       (copied-here (shape w) c (m .layout) hc (grants .payload) (grants .adds .there) a j (omega (arith, grants .large)) (r .source))
 
 -- each way through carry
-module _ {w : ℕ} {b : List ℕ} {a k n : ℕ} (q : Holding w b a k) (s : Asked w n) {t : Taken} {c : List ℕ} (g : Allocates w b n t c) where
+module _ {w : ℕ} {b : List ℕ} {a k n : ℕ} (q : Holding w b a k) (s : Asked w n) {t : Taken} {c : List ℕ} (g : GivesSize w b n t c) where
   pub not-carried : t ≡ NoRoom → Carried w b a k n NoRoom c
   not-carried e =
       record {

@@ -25,7 +25,7 @@ use Rattle.model.proofs.pictures.Drawn.{drawn-here}
 use Rattle.model.proofs.blocks.Taken.{parts, takes-of}
 use Rattle.model.proofs.blocks.Replace.{three}
 use Rattle.model.proofs.blocks.Resizing.{both-ends, resizedIn, resized-valid, stays-same, stays-cut, stays-grown, stays-none}
-use Rattle.find.specs.declared.Block as found
+use Rattle.find.specs.declared.VariableBlock.{VariableBlock}
 use Rattle.engine.specs.declared.blocks.Gap.{Gap}
 use Rattle.find.specs.Find.{BlockFound}
 use Rattle.links.specs.Links.{BackRoom}
@@ -41,14 +41,14 @@ pub drawn-same : {w : ℕ} (b : List ℕ) (L : Layout) → Here (shape w) b L �
 drawn-same {w} b L h bytes = pictures.drawn w (words (shape w) (endOf (length b)) L) b b bytes refl (h .shown) (λ i l o. refl)
 
 -- where the block x ends, and the next free block as the link to it says
-abbrev stopOf : found.Block → ℕ
+abbrev stopOf : VariableBlock → ℕ
 stopOf x = x .at .0 + x .size
 
-abbrev nextOf : ℕ → List ℕ → found.Block → ℕ
+abbrev nextOf : ℕ → List ℕ → VariableBlock → ℕ
 nextOf w b x = wordAt w b (linkOf (shape w) (x .prev .0))
 
 -- the block and its right neighbour in the middle
-module _ {w : ℕ} (wd : Width w) (b : List ℕ) (L : Layout) (a : ℕ) (t : Spot) (x : found.Block) (h : Here (shape w) b L) (f : BlockFound w L a t x) where
+module _ {w : ℕ} (wd : Width w) (b : List ℕ) (L : Layout) (a : ℕ) (t : Spot) (x : VariableBlock) (h : Here (shape w) b L) (f : BlockFound w L a t x) where
   pub right : RightOf wd b L a t x h f (rightAt w b (stopOf x) (nextOf w b x)) (rightFree w b (stopOf x) (nextOf w b x))
   right =
       right-of wd b L a t x h f (nextOf w b x) (next-free wd b L a t x h f (nextOf w b x) refl) (rightAt w b (stopOf x) (nextOf w b x)) (rightFree w b (stopOf x) (nextOf w b x)) refl refl
@@ -128,7 +128,7 @@ module _ {w : ℕ} (wd : Width w) (b : List ℕ) (L : Layout) (a : ℕ) (t : Spo
           })
 
 -- what code reads and writes, in its own numbers
-module _ {w : ℕ} (b : List ℕ) (x : found.Block) (k : BlockLive w b x) where
+module _ {w : ℕ} (b : List ℕ) (x : VariableBlock) (k : BlockLive w b x) where
   module _ (link next : ℕ) (el : link ≡ linkOf (shape w) (x .prev .0)) (en : next ≡ wordAt w b link) where
     next-is : next ≡ nextOf w b x
     next-is = en ∙ ap (λ (y : ℕ). wordAt w b y) el

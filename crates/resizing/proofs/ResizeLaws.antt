@@ -20,7 +20,7 @@ use Rattle.model.proofs.Good.{shape-good}
 use Rattle.model.proofs.walks.Finding.{item-found}
 use Rattle.model.proofs.lives.Moving.{taken-large, item-again}
 use Rattle.model.proofs.blocks.Resizing.{item-stays, item-moves, small-moves}
-use Rattle.find.specs.declared.Block.{Block}
+use Rattle.find.specs.declared.VariableBlock.{VariableBlock}
 use Rattle.find.specs.declared.Live.{Live}
 use Rattle.find.specs.declared.Live.the-variants.{Nothing, Item, Variable}
 use Rattle.engine.specs.declared.allocate.Taken.{Taken}
@@ -32,9 +32,9 @@ use Rattle.find.specs.Find.{Finds}
 use Rattle.engine.specs.Allocate.{Asked}
 use Rattle.engine.specs.Items.{ItemLive, GaveItem}
 use Rattle.engine.specs.Release.{BlockLive}
-use Rattle.engine.specs.Free.{freedBytes, Freed}
+use Rattle.engine.specs.Free.{freedBytes, GivesBack}
 use Rattle.resizing.specs.Resize.{Stays, Reshaped}
-use Rattle.resizing.specs.Move.{Holding, Carried, ItemAt, BlockAt, outcomeOf, Moves, Resizes}
+use Rattle.resizing.specs.Move.{Holding, Carried, ItemLiveAt, BlockLiveAt, outcomeOf, Moves, MovesOrStays}
 use Rattle.resizing.proofs.ReshapeLaws.{drawn-same}
 use Rattle.resizing.proofs.MoveLaws.{taken-none, taken-some, old-live}
 
@@ -82,7 +82,7 @@ module _ {w : ℕ} {b : List ℕ} {a k n : ℕ} {t : Taken} {c : List ℕ} (g : 
               ∙ ap (λ (o : Option Made). made (shape w) b o (λ (z : Made). drawn (shape w) (without (shape w) a (z .layout)) (copied a (z .at) (min (capacity (shape w) (find (shape w) a L)) n) (drawn (shape w) (z .layout) b)))) (sym (m .1));
         }
 
-    pub freed-to : (r : Bool) (d : List ℕ) → Bytes c → Freed w c a r d → Moves w b a n (to.To x) d
+    pub freed-to : (r : Bool) (d : List ℕ) → Bytes c → GivesBack w c a r d → Moves w b a n (to.To x) d
     unfolding freed
     freed-to r d bytes f = moved-to d (λ L h. f .bytes (chosen L h .0 .layout) (carried-in L h) ∙ go (chosen L h .0 .layout) (carried-in L h) (find (shape w) a (chosen L h .0 .layout)))
       where
@@ -108,7 +108,7 @@ module _ (w : ℕ) (b : List ℕ) (a n : ℕ) (L : Layout) (live : find (shape w
   remains c M s e = ap (λ (y : List ℕ). granted a y) e ∙ sym (found-there (find (shape w) a L) live (refused b notLive) (granted a (drawn (shape w) M b))) ∙ ap rule (sym s)
 
 -- an item
-module _ {w : ℕ} {b : List ℕ} {a q c : ℕ} (i : ItemAt w b a q c) where
+module _ {w : ℕ} {b : List ℕ} {a q c : ℕ} (i : ItemLiveAt w b a q c) where
   is-live : (L : Layout) → Here (shape w) b L → find (shape w) a L ≡ nothing → ⊥
   is-live L h e = not-nothing-item (offsetOf (shape w) q) c (sym (i .is L h) ∙ e)
 
@@ -121,7 +121,7 @@ module _ {w : ℕ} {b : List ℕ} {a q c : ℕ} (i : ItemAt w b a q c) where
   pub item-holds : Holding w b a (8 * c + 8)
   item-holds = record { ready = i .ready; live = is-live; large = λ L h. ap (capacity (shape w)) (sym (i .is L h)) }
 
-  pub same-class : {n : ℕ} (k : ℕ) → k ≡ classOf n → k ≡ c → Bytes b → Resizes w b a n (to.To (record { 0 = a })) b
+  pub same-class : {n : ℕ} (k : ℕ) → k ≡ classOf n → k ≡ c → Bytes b → MovesOrStays w b a n (to.To (record { 0 = a })) b
   same-class {n} k e f bytes =
       record {
         is = λ L h.
@@ -129,7 +129,7 @@ module _ {w : ℕ} {b : List ℕ} {a q c : ℕ} (i : ItemAt w b a q c) where
             remains w b a n L (is-live L h) b L s (drawn-same b L h bytes);
       }
 
-  pub item-goes : {n : ℕ} (k : ℕ) → k ≡ classOf n → (k ≡ c → ⊥) → (r : Resized) (d : List ℕ) → Moves w b a n r d → Resizes w b a n r d
+  pub item-goes : {n : ℕ} (k : ℕ) → k ≡ classOf n → (k ≡ c → ⊥) → (r : Resized) (d : List ℕ) → Moves w b a n r d → MovesOrStays w b a n r d
   item-goes {n} k e f r d g =
       record {
         is = λ L h.
@@ -152,7 +152,7 @@ module _ {w : ℕ} {b : List ℕ} {a q c : ℕ} (i : ItemAt w b a q c) where
         let h = i .ready .sound .here in
         record { width = i .ready .width; layout = chosen g item-holds s x e L h .0 .layout; here = carried-in g item-holds s x e L h; short = rw l (i .ready .short); low = i .low; address = a; found = again L h }
 
-    pub item-gone : (k : ℕ) → k ≡ classOf n → (k ≡ c → ⊥) → (d′ : List ℕ) → GaveItem w d q c d′ → Resizes w b a n (to.To x) d′
+    pub item-gone : (k : ℕ) → k ≡ classOf n → (k ≡ c → ⊥) → (d′ : List ℕ) → GaveItem w d q c d′ → MovesOrStays w b a n (to.To x) d′
     item-gone k ek f d′ v =
         item-goes k ek f (to.To x) d′
         (moved-to g item-holds s x e d′ (λ L h.
@@ -160,7 +160,7 @@ module _ {w : ℕ} {b : List ℕ} {a q c : ℕ} (i : ItemAt w b a q c) where
         ∙ ap (λ (y : Found). drawn (shape w) (freed (shape w) y (chosen g item-holds s x e L h .0 .layout)) d) (sym (again L h))))
 
 -- a variable block
-module _ {w : ℕ} {b : List ℕ} {a : ℕ} {x : Block} (i : BlockAt w b a x) where
+module _ {w : ℕ} {b : List ℕ} {a : ℕ} {x : VariableBlock} (i : BlockLiveAt w b a x) where
   block-is-live : (L : Layout) → Here (shape w) b L → find (shape w) a L ≡ nothing → ⊥
   block-is-live L h e = not-nothing-block (i .is L h .0) (sym (i .is L h .1 .found) ∙ e)
 
@@ -184,7 +184,7 @@ module _ {w : ℕ} {b : List ℕ} {a : ℕ} {x : Block} (i : BlockAt w b a x) wh
       let h = i .ready .sound .here in
       record { width = i .ready .width; layout = L; here = h; short = i .ready .short; address = a; spot = i .is L h .0; found = i .is L h .1 }
 
-  pub small-goes : {n : ℕ} → n ≤ largestItem (shape w) → (r : Resized) (d : List ℕ) → Moves w b a n r d → Resizes w b a n r d
+  pub small-goes : {n : ℕ} → n ≤ largestItem (shape w) → (r : Resized) (d : List ℕ) → Moves w b a n r d → MovesOrStays w b a n r d
   small-goes {n} l r d g =
       record {
         is = λ L h.
@@ -196,7 +196,7 @@ module _ {w : ℕ} {b : List ℕ} {a : ℕ} {x : Block} (i : BlockAt w b a x) wh
     told : (L : Layout) (h : Here (shape w) b L) → Stays w b L (stays (shape w) n (find (shape w) a L) L) r c
     told L h = let v = i .is L h in rw (v .1 .found) (g .is L a (v .0) h (v .1))
 
-    pub reshaped-there : r ≡ true → Resizes w b a n (to.To (record { 0 = a })) c
+    pub reshaped-there : r ≡ true → MovesOrStays w b a n (to.To (record { 0 = a })) c
     reshaped-there e = record { is = λ L h. go L h (stays (shape w) n (find (shape w) a L) L) refl (told L h) }
       where
         go : (L : Layout) (h : Here (shape w) b L) (o : Option Layout) → stays (shape w) n (find (shape w) a L) L ≡ o → Stays w b L o r c → granted a c ≡ rule w b a n L (block-is-live L h) (stays (shape w) n (find (shape w) a L) L)
@@ -210,10 +210,10 @@ module _ {w : ℕ} {b : List ℕ} {a : ℕ} {x : Block} (i : BlockAt w b a x) wh
     pub as-before : r ≡ false → c ≡ b
     as-before e = let L = i .ready .sound .layout in none-of L (stays (shape w) n (find (shape w) a L) L) e (told L (i .ready .sound .here)) .1
 
-    pub still-there : r ≡ false → BlockAt w c a x
-    still-there e = subst (λ (y : List ℕ). BlockAt w y a x) (sym (as-before e)) i
+    pub still-there : r ≡ false → BlockLiveAt w c a x
+    still-there e = subst (λ (y : List ℕ). BlockLiveAt w y a x) (sym (as-before e)) i
 
-    pub large-goes : r ≡ false → (y : Resized) (d : List ℕ) → Moves w c a n y d → Resizes w b a n y d
+    pub large-goes : r ≡ false → (y : Resized) (d : List ℕ) → Moves w c a n y d → MovesOrStays w b a n y d
     large-goes e y d v =
         let w′ : Moves w b a n y d = subst (λ (z : List ℕ). Moves w z a n y d) (as-before e) v in
         record { is = λ L h. goes w b a n L (block-is-live L h) (outcomeOf y d) (none-of L (stays (shape w) n (find (shape w) a L) L) e (told L h) .0) (w′ .is L h) }
@@ -223,14 +223,14 @@ module _ {w : ℕ} (b : List ℕ) (a : ℕ) (k : Ready w b) (x : Live) (f : (L :
   found-as : (y : Live) → x ≡ y → (L : Layout) → Here (shape w) b L → Finds w L a y
   found-as y e L h = subst (λ (z : Live). Finds w L a z) e (f L h)
 
-  pub nothing-live : {n : ℕ} → x ≡ Nothing → Resizes w b a n to.NotLive b
+  pub nothing-live : {n : ℕ} → x ≡ Nothing → MovesOrStays w b a n to.NotLive b
   unfolding Finds
   nothing-live e = record { is = λ L h. rw (found-as Nothing e L h) refl }
 
-  pub item-at : (q : Position) (c : ℕ) → x ≡ Item q c → ItemAt w b a (q .0) c
+  pub item-at : (q : Position) (c : ℕ) → x ≡ Item q c → ItemLiveAt w b a (q .0) c
   unfolding Finds
   item-at q c e = record { ready = k; low = found-as (Item q c) e (k .sound .layout) (k .sound .here) .0; is = λ L h. found-as (Item q c) e L h .1 }
 
-  pub block-at : (y : Block) → x ≡ Variable y → BlockAt w b a y
+  pub block-at : (y : VariableBlock) → x ≡ Variable y → BlockLiveAt w b a y
   unfolding Finds
   block-at y e = record { ready = k; is = λ L h. found-as (Variable y) e L h }

@@ -6,18 +6,18 @@ use Rattle.words.specs.Width.{Width}
 use Rattle.model.specs.Shape.{shape}
 use Rattle.model.specs.Layout.{Layout}
 use Rattle.model.specs.Sound.{Here}
-use Rattle.model.specs.inner.Walks.{Stands, Mend}
-use Rattle.find.specs.declared.Block.{Block}
+use Rattle.model.specs.inner.Walks.{flag, Stands, Mend}
+use Rattle.find.specs.declared.VariableBlock.{VariableBlock}
 
 -- x is a block as it was found before an allocation, and `before` is the free block before the one at its prev
-pub record Mendable (w : ℕ) (b : List ℕ) (x : Block) (before : ℕ) : Type 0 where
+pub record Mendable (w : ℕ) (b : List ℕ) (x : VariableBlock) (before : ℕ) : Type 0 where
   pub width : Width w
   pub layout : Layout
   pub here : Here (shape w) b layout
-  pub mend : Mend (shape w) layout (x .at .0) (x .size) (x .prev .0) (x .left) before
+  pub mend : Mend (shape w) layout (x .at .0) (x .size) (x .prev .0) (flag (x .touching)) before
 
 -- y is that block as it is found now
-pub record Mended (w : ℕ) (b : List ℕ) (x : Block) (before : ℕ) (y : Block) : Type 0 where
+pub record Mended (w : ℕ) (b : List ℕ) (x : VariableBlock) (before : ℕ) (y : VariableBlock) : Type 0 where
   pub at : y .at .0 ≡ x .at .0
   pub size : y .size ≡ x .size
-  pub stands : (L : Layout) → Here (shape w) b L → Mend (shape w) L (x .at .0) (x .size) (x .prev .0) (x .left) before → Stands (shape w) L (x .at .0) (x .size) (y .prev .0) (y .left)
+  pub stands : (L : Layout) → Here (shape w) b L → Mend (shape w) L (x .at .0) (x .size) (x .prev .0) (flag (x .touching)) before → Stands (shape w) L (x .at .0) (x .size) (y .prev .0) (flag (y .touching))

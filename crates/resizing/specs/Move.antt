@@ -10,7 +10,7 @@ use Rattle.model.specs.Sound.{Here}
 use Rattle.model.specs.Rules.{Spot, Made, thing, nothing, find, allocate, stays, capacity}
 use Rattle.model.specs.Refusals.{notLive, noRoom}
 use Rattle.model.specs.Calls.{Outcome, refused, granted, found, drawn, moved, resized}
-use Rattle.find.specs.declared.Block.{Block}
+use Rattle.find.specs.declared.VariableBlock.{VariableBlock}
 use Rattle.engine.specs.declared.allocate.Taken.{Taken}
 use Rattle.resizing.specs.declared.resize.Resized.{Resized}
 use Rattle.resizing.specs.declared.resize.Resized.the-variants.{To, NotLive, NoRoom}
@@ -38,12 +38,12 @@ pub record Carried (w : ℕ) (b : List ℕ) (a k n : ℕ) (r : Taken) (c : List 
   pub is : (L : Layout) → Here (shape w) b L → CarriedIn w b L a k n (allocate (shape w) n L) r c
 
 -- the item of class c with its header at q, and the variable block x, are live at a
-pub record ItemAt (w : ℕ) (b : List ℕ) (a q c : ℕ) : Type 0 where
+pub record ItemLiveAt (w : ℕ) (b : List ℕ) (a q c : ℕ) : Type 0 where
   pub ready : Ready w b
   pub low : index (shape w) ≤ q
   pub is : (L : Layout) → Here (shape w) b L → find (shape w) a L ≡ thing (offsetOf (shape w) q) c
 
-pub record BlockAt (w : ℕ) (b : List ℕ) (a : ℕ) (x : Block) : Type 0 where
+pub record BlockLiveAt (w : ℕ) (b : List ℕ) (a : ℕ) (x : VariableBlock) : Type 0 where
   pub ready : Ready w b
   pub is : (L : Layout) → Here (shape w) b L → ((t : Spot) × BlockFound w L a t x)
 
@@ -58,5 +58,5 @@ pub record Moves (w : ℕ) (b : List ℕ) (a n : ℕ) (r : Resized) (c : List �
   pub is : (L : Layout) → Here (shape w) b L → outcomeOf r c ≡ moved (shape w) b a n L
 
 -- the record resized
-pub record Resizes (w : ℕ) (b : List ℕ) (a n : ℕ) (r : Resized) (c : List ℕ) : Type 0 where
+pub record MovesOrStays (w : ℕ) (b : List ℕ) (a n : ℕ) (r : Resized) (c : List ℕ) : Type 0 where
   pub is : (L : Layout) → Here (shape w) b L → outcomeOf r c ≡ found (shape w) (find (shape w) a L) (refused b notLive) (resized (shape w) b a (moved (shape w) b a n L) (stays (shape w) n (find (shape w) a L) L))

@@ -1,38 +1,41 @@
 // The free block before a variable block, found again without a walk once an allocation may have taken it.
-use find::Block;
+use find::VariableBlock;
+use model::FREE;
 use model::Position;
+use model::kind_in;
+use model::size_in;
 use words::word;
 ghost use Rattle.resizing.specs.Mend.{Mendable, Mended};
 
 // The block x as it is found now; `before` is the free block that stood before the one at x's prev.
-pub fn mend(w: usize, h: &[u8], x: Block, before: Position) -> Block
+pub fn mend(w: usize, h: &[u8], x: VariableBlock, before: Position) -> VariableBlock
     requires { ⌜ Mendable w (now h) x (before .0) ⌝ }
     ensures { λ r. ⌜ Mended w (now (h .entry)) x (before .0) r ⌝ }
 {
-    let prev = x.prev.0;
-    if prev == 0 {
+    let prev = x.prev;
+    if prev.0 == 0 {
         return x;
     }
-    let t = word(w, h, prev);
-    if t % 8 == 0 {
+    let t = word(w, h, prev.0);
+    if kind_in(t) == FREE {
         return x;
     }
-    let q = prev + t / 8 * 8;
+    let q = Position(prev.0 + size_in(t));
     let at = x.at;
     let size = x.size;
-    let left = x.left;
-    if word(w, h, q) % 8 == 0 {
-        return Block {
+    let touching = x.touching;
+    if kind_in(word(w, h, q.0)) == FREE {
+        return VariableBlock {
             at: at,
             size: size,
-            prev: Position(q),
-            left: left,
+            prev: q,
+            touching: touching,
         };
     }
-    Block {
+    VariableBlock {
         at: at,
         size: size,
         prev: before,
-        left: 0,
+        touching: false,
     }
 }

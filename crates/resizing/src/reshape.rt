@@ -4,17 +4,19 @@ use engine::blocks::put_high;
 use engine::blocks::put_low;
 use engine::blocks::taken;
 use engine::release::right_edge;
-use find::Block;
+use find::VariableBlock;
 use links::back_at;
 use links::link_at;
 use model::Position;
+use model::VARIABLE;
+use model::least_free;
 use model::need_of;
 use words::word;
 ghost use Rattle.engine.specs.Release.{BlockLive};
 ghost use Rattle.resizing.specs.Resize.{Reach, Large, Reshaped};
 
 // The block x and a free neighbour behind it, read as one gap.
-fn reach(w: usize, h: &[u8], x: Block) -> Gap
+fn reach(w: usize, h: &[u8], x: VariableBlock) -> Gap
     requires { ⌜ BlockLive w (now h) x ⌝ }
     ensures { λ r. ⌜ Reach w (now (h .entry)) x r ⌝ }
 {
@@ -36,7 +38,7 @@ fn reach(w: usize, h: &[u8], x: Block) -> Gap
 }
 
 // Resizes the block x to n bytes where it stands: true; or false where it must move, and nothing changes.
-pub fn reshape(w: usize, h: &mut [u8], x: Block, n: usize) -> bool
+pub fn reshape(w: usize, h: &mut [u8], x: VariableBlock, n: usize) -> bool
     requires { ⌜ BlockLive w (now h) x ⌝ }
     requires { ⌜ Large w n ⌝ }
     ensures { λ r. ⌜ Reshaped w (now (h .entry)) x n r (now (h .exit)) ⌝ }
@@ -47,12 +49,12 @@ pub fn reshape(w: usize, h: &mut [u8], x: Block, n: usize) -> bool
         return false;
     }
     if need <= x.size {
-        if x.size < need + 4 * w {
+        if x.size < need + least_free(w) {
             return true;
         }
     }
     let u = taken(w, need, g.size);
-    put_low(w, h, g, u, 2);
-    put_high(w, h, g, u, 2);
+    put_low(w, h, g, u, VARIABLE);
+    put_high(w, h, g, u, VARIABLE);
     true
 }

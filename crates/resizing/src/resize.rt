@@ -5,17 +5,20 @@ use crate::reshape::reshape;
 use engine::allocate::Taken;
 use engine::items::give;
 use engine::release::release;
-use find::Block;
 use find::Live;
+use find::VariableBlock;
 use find::find;
 use links::back_at;
 use model::Address;
 use model::Position;
+use model::block_capacity;
 use model::class_of;
+use model::item_capacity;
+use model::largest_item;
 use words::word;
 ghost use Rattle.engine.specs.Allocate.{Asked};
 ghost use Rattle.engine.specs.Ready.{Ready};
-ghost use Rattle.resizing.specs.Move.{ItemAt, BlockAt, Moves, Resizes};
+ghost use Rattle.resizing.specs.Move.{ItemLiveAt, BlockLiveAt, Moves, MovesOrStays};
 
 // Where a resized record stands; or that nothing is live there; or that there is no room.
 pub enum Resized {
@@ -26,14 +29,14 @@ pub enum Resized {
 
 // The item of class c with its header at q.
 fn resize_item(w: usize, h: &mut [u8], a: Address, q: Position, c: usize, n: usize) -> Resized
-    requires { ⌜ ItemAt w (now h) (a .0) (q .0) c ⌝ }
+    requires { ⌜ ItemLiveAt w (now h) (a .0) (q .0) c ⌝ }
     requires { ⌜ Asked w n ⌝ }
-    ensures { λ r. ⌜ Resizes w (now (h .entry)) (a .0) n r (now (h .exit)) ⌝ }
+    ensures { λ r. ⌜ MovesOrStays w (now (h .entry)) (a .0) n r (now (h .exit)) ⌝ }
 {
     if class_of(n) == c {
         return Resized::To(a);
     }
-    let t = carry(w, h, a, 8 * c + 8, n);
+    let t = carry(w, h, a, item_capacity(w, c), n);
     match t {
         Taken::NoRoom => Resized::NoRoom,
         Taken::At(new) => {
@@ -44,13 +47,13 @@ fn resize_item(w: usize, h: &mut [u8], a: Address, q: Position, c: usize, n: usi
 }
 
 // The variable block x by a move. The free block before it is read first: the allocation may take the one that stands between.
-fn move_block(w: usize, h: &mut [u8], a: Address, x: Block, n: usize) -> Resized
-    requires { ⌜ BlockAt w (now h) (a .0) x ⌝ }
+fn move_block(w: usize, h: &mut [u8], a: Address, x: VariableBlock, n: usize) -> Resized
+    requires { ⌜ BlockLiveAt w (now h) (a .0) x ⌝ }
     requires { ⌜ Asked w n ⌝ }
     ensures { λ r. ⌜ Moves w (now (h .entry)) (a .0) n r (now (h .exit)) ⌝ }
 {
     let before = Position(word(w, h, back_at(w, h, x.prev).0));
-    let t = carry(w, h, a, x.size - 2 * w, n);
+    let t = carry(w, h, a, block_capacity(w, x.size), n);
     match t {
         Taken::NoRoom => Resized::NoRoom,
         Taken::At(new) => {
@@ -62,12 +65,12 @@ fn move_block(w: usize, h: &mut [u8], a: Address, x: Block, n: usize) -> Resized
 }
 
 // The variable block x.
-fn resize_block(w: usize, h: &mut [u8], a: Address, x: Block, n: usize) -> Resized
-    requires { ⌜ BlockAt w (now h) (a .0) x ⌝ }
+fn resize_block(w: usize, h: &mut [u8], a: Address, x: VariableBlock, n: usize) -> Resized
+    requires { ⌜ BlockLiveAt w (now h) (a .0) x ⌝ }
     requires { ⌜ Asked w n ⌝ }
-    ensures { λ r. ⌜ Resizes w (now (h .entry)) (a .0) n r (now (h .exit)) ⌝ }
+    ensures { λ r. ⌜ MovesOrStays w (now (h .entry)) (a .0) n r (now (h .exit)) ⌝ }
 {
-    if n <= 32 * w {
+    if n <= largest_item(w) {
         return move_block(w, h, a, x, n);
     }
     if reshape(w, h, x, n) {
@@ -80,7 +83,7 @@ fn resize_block(w: usize, h: &mut [u8], a: Address, x: Block, n: usize) -> Resiz
 pub fn resize(w: usize, h: &mut [u8], a: Address, n: usize) -> Resized
     requires { ⌜ Ready w (now h) ⌝ }
     requires { ⌜ Asked w n ⌝ }
-    ensures { λ r. ⌜ Resizes w (now (h .entry)) (a .0) n r (now (h .exit)) ⌝ }
+    ensures { λ r. ⌜ MovesOrStays w (now (h .entry)) (a .0) n r (now (h .exit)) ⌝ }
 {
     let x = find(w, h, a);
     match x {

@@ -26,17 +26,17 @@ same-length c = search needs
 returns : tie.Need-returns
 returns c = must-move _ _ (c .before .before .before .before .before .before .pre .0) _ (c .before .before .reach .ensures) _ _ (c .before .before .before .before .before .before .pre .1) (c .before .before .before .before .need-of .ensures) (c .if1 .taken)
 
-mul-if3 : tie.Need-mul-if3
-mul-if3 c = search needs
+least-free-requires : tie.Need-least-free-requires
+least-free-requires c κs = search needs
 
 add-if3 : tie.Need-add-if3
-add-if3 c = omega (arith, c .before .before .before .before .before .before .need-of .ensures, c .before .before .before .before .before .before .before .before .pre .1 .most, most-bound (c .before .before .before .before .before .before .before .before .pre .0 .width))
+add-if3 c = omega (arith, c .before .before .before .before .before .before .before .need-of .ensures, c .before .before .before .before .before .before .before .before .before .pre .1 .most, most-bound (c .before .before .before .before .before .before .before .before .before .pre .0 .width))
 
 same-length-2 : tie.Need-same-length-2
 same-length-2 c = search needs
 
 returns-2 : tie.Need-returns-2
-returns-2 c = stays-so _ _ (c .before .before .before .before .before .before .before .before .before .before .pre .0) _ (c .before .before .before .before .before .before .reach .ensures) _ _ (c .before .before .before .before .before .before .before .before .before .before .pre .1) (c .before .before .before .before .before .before .before .before .need-of .ensures) (c .before .before .if2 .taken) (c .if3 .taken) (λ i. c .before .before .before .before .before .before .before .before .before .slice-known .given i .fits)
+returns-2 c = stays-so _ _ (c .before .before .before .before .before .before .before .before .before .before .before .pre .0) _ (c .before .before .before .before .before .before .before .reach .ensures) _ _ (c .before .before .before .before .before .before .before .before .before .before .before .pre .1) (c .before .before .before .before .before .before .before .before .before .need-of .ensures) (c .before .before .before .if2 .taken) (omega (arith, c .if3 .taken, c .before .before .least-free .ensures)) (λ i. c .before .before .before .before .before .before .before .before .before .before .slice-known .given i .fits)
 
 taken-requires : tie.Need-taken-requires
 taken-requires c κs = (c .before .before .before .before .before .before .before .before .pre .0 .width, omega (arith, c .before .before .before .before .before .before .need-of .ensures, c .before .before .before .before .before .before .before .before .pre .1 .most, most-bound (c .before .before .before .before .before .before .before .before .pre .0 .width)))
@@ -61,7 +61,7 @@ reshape-spec =
     reach-requires
     same-length
     returns
-    mul-if3
+    least-free-requires
     add-if3
     same-length-2
     returns-2

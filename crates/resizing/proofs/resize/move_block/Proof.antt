@@ -19,14 +19,11 @@ back-at-requires c κs = prev-back (c .before .before .pre .0)
 word-requires : tie.Need-word-requires
 word-requires c κs = (c .before .before .before .pre .0 .ready .width, back-room (c .before .before .before .pre .0) _ (c .back-at .ensures))
 
-mul-carry : tie.Need-mul-carry
-mul-carry c = search needs
-
-sub-carry : tie.Need-sub-carry
-sub-carry c = omega (arith, block-large (c .before .before .before .before .before .before .pre .0))
+block-capacity-requires : tie.Need-block-capacity-requires
+block-capacity-requires c κs = (c .before .before .before .before .before .pre .0 .ready .width, omega (arith, block-large (c .before .before .before .before .before .pre .0)))
 
 carry-requires : tie.Need-carry-requires
-carry-requires c κs = (block-holds (c .before .before .before .before .before .before .pre .0), c .before .before .before .before .before .before .pre .1)
+carry-requires c κs = (rw (c .block-capacity .ensures) (block-holds (c .before .before .before .before .before .before .pre .0)), c .before .before .before .before .before .before .pre .1)
 
 enum-told : tie.Need-enum-told
 enum-told c = search needs
@@ -35,22 +32,22 @@ enum-known-t : tie.Need-enum-known-t
 enum-known-t c = search needs
 
 mend-requires : tie.Need-mend-requires
-mend-requires c κs = mendable (c .before .before .before .before .before .before .before .before .before .before .before .before .before .pre .0) (c .before .before .before .before .before .before .carry .ensures) (c .before .before .before .before .before .before .before .before .before .before .before .before .before .pre .1) _ (c .before .before .t .given .1) _ _ (c .before .before .before .before .before .before .before .before .before .before .back-at .ensures) (c .before .before .before .before .before .before .before .before .before .word .ensures)
+mend-requires c κs = mendable (c .before .before .before .before .before .before .before .before .before .before .before .before .before .pre .0) (rw (c .before .before .before .before .before .before .before .block-capacity .ensures) at (c .before .before .before .before .before .before .carry .ensures)) (c .before .before .before .before .before .before .before .before .before .before .before .before .before .pre .1) _ (c .before .before .t .given .1) _ _ (c .before .before .before .before .before .before .before .before .before .before .back-at .ensures) (c .before .before .before .before .before .before .before .before .before .word .ensures)
 
 release-requires : tie.Need-release-requires
-release-requires c κs = found-again (c .before .before .before .before .before .before .before .before .before .before .before .before .before .before .before .pre .0) (c .before .before .before .before .before .before .before .before .carry .ensures) (c .before .before .before .before .before .before .before .before .before .before .before .before .before .before .before .pre .1) _ (c .before .before .before .before .t .given .1) _ _ (c .before .before .before .before .before .before .before .before .before .before .before .before .back-at .ensures) (c .before .before .before .before .before .before .before .before .before .before .before .word .ensures) (c .before .mend .ensures) (search needs)
+release-requires c κs = found-again (c .before .before .before .before .before .before .before .before .before .before .before .before .before .before .before .pre .0) (rw (c .before .before .before .before .before .before .before .before .before .block-capacity .ensures) at (c .before .before .before .before .before .before .before .before .carry .ensures)) (c .before .before .before .before .before .before .before .before .before .before .before .before .before .before .before .pre .1) _ (c .before .before .before .before .t .given .1) _ _ (c .before .before .before .before .before .before .before .before .before .before .before .before .back-at .ensures) (c .before .before .before .before .before .before .before .before .before .before .before .word .ensures) (c .before .mend .ensures) (search needs)
 
 same-length : tie.Need-same-length
 same-length c = search needs
 
 returns : tie.Need-returns
-returns c = moved-nowhere (c .before .before .before .before .carry .ensures) (c .enum-told .given .1)
+returns c = moved-nowhere (rw (c .before .before .before .before .before .block-capacity .ensures) at (c .before .before .before .before .carry .ensures)) (c .enum-told .given .1)
 
 same-length-2 : tie.Need-same-length-2
 same-length-2 c = search needs
 
 returns-2 : tie.Need-returns-2
-returns-2 c = given-back (c .before .before .before .before .before .before .before .before .before .before .before .before .before .before .before .before .before .before .pre .0) (c .before .before .before .before .before .before .before .before .before .before .before .carry .ensures) (c .before .before .before .before .before .before .before .before .before .before .before .before .before .before .before .before .before .before .pre .1) _ (c .before .before .before .before .before .before .before .t .given .1) _ _ (c .before .before .before .before .before .before .before .before .before .before .before .before .before .before .before .back-at .ensures) (c .before .before .before .before .before .before .before .before .before .before .before .before .before .before .word .ensures) (c .before .before .before .before .mend .ensures) _ (c .before .before .release .ensures)
+returns-2 c = given-back (c .before .before .before .before .before .before .before .before .before .before .before .before .before .before .before .before .before .before .pre .0) (rw (c .before .before .before .before .before .before .before .before .before .before .before .before .block-capacity .ensures) at (c .before .before .before .before .before .before .before .before .before .before .before .carry .ensures)) (c .before .before .before .before .before .before .before .before .before .before .before .before .before .before .before .before .before .before .pre .1) _ (c .before .before .before .before .before .before .before .t .given .1) _ _ (c .before .before .before .before .before .before .before .before .before .before .before .before .before .before .before .back-at .ensures) (c .before .before .before .before .before .before .before .before .before .before .before .before .before .before .word .ensures) (c .before .before .before .before .mend .ensures) _ (c .before .before .release .ensures)
 
 pub move-block-spec : {M : Type 1} → statement M
 move-block-spec =
@@ -58,8 +55,7 @@ move-block-spec =
     (tie.spec
     back-at-requires
     word-requires
-    mul-carry
-    sub-carry
+    block-capacity-requires
     carry-requires
     enum-told
     enum-known-t
