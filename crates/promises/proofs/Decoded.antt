@@ -17,11 +17,11 @@ use Rattle.model.specs.Layout.{Slot, idle, held, Use, variable, page, Block, fr
 use Rattle.model.specs.Sound.{times, Apart, AllowedUse, Allowed, AllAllowed, idleItems, Valid, Here, Sound}
 use Rattle.model.proofs.Sizes.{flags-idle}
 use Rattle.model.proofs.blocks.Blocks.{le-ends}
-use Rattle.sound.specs.Runs.{Slots, flagOf, Headers, Reads}
+use Rattle.sound.specs.Onward.{Slots, kindOf, Headers, Reads}
 use Rattle.sound.specs.Lists.{named, Chain, Chains}
 use Rattle.sound.proofs.MapLaws.{fewer}
 use Rattle.sound.proofs.Pages.{classAt, page-class}
-use Rattle.sound.proofs.Walks.{use-size, use-flag}
+use Rattle.sound.proofs.Walks.{use-size, use-kind}
 use Rattle.sound.proofs.HereFilled.{here-reads, here-chains}
 use Rattle.promises.proofs.Stable.{numbers}
 
@@ -55,8 +55,8 @@ module _ {w : ℕ} (wd : Width w) where
     unfoldable useAt : ℕ → ℕ → Use
     useAt p t = cond (eqb (t % 8) 2) (variable (t - 2)) (pageAt (classAt w b p) p t)
 
-    use-is : (p t : ℕ) (u : Use) → AllowedUse (shape w) u → Headers w b p u → t ≡ useSize (shape w) u + flagOf u → useAt p t ≡ u
-    unfolding useAt Headers flagOf AllowedUse useSize
+    use-is : (p t : ℕ) (u : Use) → AllowedUse (shape w) u → Headers w b p u → t ≡ useSize (shape w) u + kindOf u → useAt p t ≡ u
+    unfolding useAt Headers kindOf AllowedUse useSize
     use-is p t (variable s) a h e =
         let f : t ≡ s + 2 = e in
         let g : s % 8 ≡ 0 = a .1 in
@@ -85,7 +85,7 @@ module _ {w : ℕ} (wd : Width w) where
         rw (lt-leb end p (omega (arith, a .0 .0)), k) (ap (λ (l : List Block). free s ∷ l) (blocks-are n (p + s) p end bs (r .1) (a .1) e (omega (arith, a .0 .0))))
     blocks-are (suc n) p prev end (used u ∷ bs) r a e l =
         let z = use-size wd u (a .0) in
-        let f = use-flag u in
+        let f = use-kind u in
         let k : blockAt p (wordAt w b p) ≡ used u =
         rw (ne-eqb (wordAt w b p % 8) 0 (λ g. omega (arith, g, r .0 .0, z .1, f .0, f .1)), use-is p (wordAt w b p) u (a .0) (r .0 .2) (r .0 .0)) refl in
         let i : p + useSize (shape w) u ≤ end = omega (arith, e, le-ends (shape w) (p + useSize (shape w) u) bs) in

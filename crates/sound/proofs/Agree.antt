@@ -1,6 +1,7 @@
 -- The marks that the walk leaves and the marked items that the lists meet are the same exactly where each class's list visits its free items.
 use Prim.Native.Nat.{ℕ, zero, suc, _+_, _-_, _*_, _/_, _%_, _≤_, _<_}
 use mathlib.Core.Path.{_≡_, refl, sym, ap, _∙_}
+use mathlib.Core.Bool.{false}
 use mathlib.Core.List.{List, [], _∷_, _++_}
 use native.Mathlib.Omega.{arith}
 use native.Mathlib.Decide.{ℕ-discrete, decLe}
@@ -9,25 +10,26 @@ use borrow.Author.Tests.{eq-eqb, ne-eqb}
 use Rattle.words.specs.Width.{Width}
 use Rattle.words.specs.Word.{wordAt}
 use Rattle.words.specs.Bits.{bitAt}
-use Rattle.model.specs.Shape.{shape, index, start}
+use Rattle.model.specs.Shape.{shape, index, start, itemAt}
+use Rattle.model.specs.Parts.{classIn, firstFreeAt, headAt, firstItemAt}
 use Rattle.model.specs.Layout.{Slot, variable, page, Block, free, used, useSize, sizeOf}
 use Rattle.model.specs.Sound.{times, idleSlots, idleIn, idleItems}
 use Rattle.model.proofs.pictures.Drawn.{times-append}
-use Rattle.sound.specs.Runs.{Slots, flagOf, Headers, Reads, freeIn, freeItems}
-use Rattle.sound.specs.Maps.{Clear}
-use Rattle.sound.specs.Lists.{ItemAt, Chain, Chains, flat, Listed, Filled}
-use Rattle.sound.specs.Parts.{Walk}
+use Rattle.sound.specs.Onward.{Slots, kindOf, Headers, Reads, freeIn, freeItems}
+use Rattle.sound.specs.Maps.{NoMarks, offsetBit, offsetAtBit, indexBit}
+use Rattle.sound.specs.Lists.{FreeItemAt, Chain, Chains, flat, Listed, Filled}
+use Rattle.sound.specs.Told.{BlocksMarked}
 use Rattle.model.proofs.items.Offsets.{items-off}
 use Rattle.sound.proofs.ItemHeaders.{slots-header, items-header}
 use Rattle.sound.proofs.Chained.{chain-item, chain-few, chains-at}
 use Rattle.sound.proofs.OneLayout.{blocks-one}
 use Rattle.model.proofs.Sizes.{start-eight, class-few}
-use Rattle.sound.proofs.Places.{base, base-at, offset-back}
+use Rattle.sound.proofs.Places.{index-offset, offset-back}
 
 module _ {w : ℕ} (wd : Width w) (b : List ℕ) (x : ℕ) where
   -- the class that the header at offset x says
   abbrev pub class : ℕ
-  class = wordAt w b (index (shape w) + x) % (16 * w) / 4
+  class = classIn (shape w) (wordAt w b (itemAt (shape w) x))
 
   none-slots : (d p : ℕ) (ss : List Slot) → index (shape w) ≤ p → Slots w b d p ss → (class ≡ d → ⊥) → times x (idleSlots (shape w) d p ss) ≡ 0
   none-slots d p ss h s n = go (decLe 1 (times x (idleSlots (shape w) d p ss)))
@@ -38,21 +40,21 @@ module _ {w : ℕ} (wd : Width w) (b : List ℕ) (x : ℕ) where
 
   -- the free items at x of all classes are those of that class
   free-class : (p prev : ℕ) (bs : List Block) → index (shape w) ≤ p → Reads w b p prev bs → times x (freeItems w p bs) ≡ times x (idleItems (shape w) class p bs)
-  unfolding Reads flagOf Headers freeItems freeIn idleItems idleIn sizeOf
+  unfolding Reads kindOf Headers freeItems freeIn idleItems idleIn sizeOf
   free-class p prev [] h r = refl
   free-class p prev (free s ∷ bs) h r = free-class (p + s) p bs (omega arith) (r .1)
   free-class p prev (used (variable s) ∷ bs) h r = free-class (p + useSize (shape w) (variable s)) prev bs (omega arith) (r .1)
   free-class p prev (used (page d k ss) ∷ bs) h r =
-      times-append x (idleSlots (shape w) d (p + w) ss) (freeItems w (p + useSize (shape w) (page d k ss)) bs)
+      times-append x (idleSlots (shape w) d (firstItemAt (shape w) p) ss) (freeItems w (p + useSize (shape w) (page d k ss)) bs)
       ∙ go (ℕ-discrete class d) (free-class (p + useSize (shape w) (page d k ss)) prev bs (omega arith) (r .1))
     where
       rest : List ℕ
       rest = idleItems (shape w) class (p + useSize (shape w) (page d k ss)) bs
 
       go : Dec (class ≡ d) → times x (freeItems w (p + useSize (shape w) (page d k ss)) bs) ≡ times x rest
-          → times x (idleSlots (shape w) d (p + w) ss) + times x (freeItems w (p + useSize (shape w) (page d k ss)) bs) ≡ times x (idleIn (shape w) class p (used (page d k ss)) ++ rest)
-      go (yes e) f = rw (eq-eqb class d e) (omega (arith, f, times-append x (idleSlots (shape w) d (p + w) ss) rest))
-      go (no e) f = rw (ne-eqb class d e) (omega (arith, f, none-slots d (p + w) ss (omega arith) (r .0 .2) e))
+          → times x (idleSlots (shape w) d (firstItemAt (shape w) p) ss) + times x (freeItems w (p + useSize (shape w) (page d k ss)) bs) ≡ times x (idleIn (shape w) class p (used (page d k ss)) ++ rest)
+      go (yes e) f = rw (eq-eqb class d e) (omega (arith, f, times-append x (idleSlots (shape w) d (firstItemAt (shape w) p) ss) rest))
+      go (no e) f = rw (ne-eqb class d e) (omega (arith, f, none-slots d (firstItemAt (shape w) p) ss (omega arith) (r .0 .2) e))
 
   module _ (end : ℕ) where
     none-chain : (c o : ℕ) (l : List ℕ) → Chain w b end c o l → (c ≡ class → ⊥) → times x l ≡ 0
@@ -66,66 +68,66 @@ module _ {w : ℕ} (wd : Width w) (b : List ℕ) (x : ℕ) where
     flat-none : (c : ℕ) (ls : List (List ℕ)) → Chains w b end c ls → class < c → times x (flat ls) ≡ 0
     unfolding Chains flat times
     flat-none c [] k h = refl
-    flat-none c (l ∷ ls) k h = times-append x l (flat ls) ∙ omega (arith, flat-none (c + 1) ls (k .2) (omega arith), none-chain c (wordAt w b (index (shape w) + w * c)) l (k .1) (λ e. omega arith))
+    flat-none c (l ∷ ls) k h = times-append x l (flat ls) ∙ omega (arith, flat-none (c + 1) ls (k .2) (omega arith), none-chain c (wordAt w b (headAt (shape w) c)) l (k .1) (λ e. omega arith))
 
     flat-from : (c d : ℕ) (ls : List (List ℕ)) → Chains w b end c ls → c + d ≡ class → times x (flat ls) ≡ times x (getD ls d [])
     unfolding Chains flat
-    flat-from c d [] k e = absurd (omega (arith, e, class-few wd (wordAt w b (index (shape w) + x))))
+    flat-from c d [] k e = absurd (omega (arith, e, class-few wd (wordAt w b (itemAt (shape w) x))))
     flat-from c zero (l ∷ ls) k e = times-append x l (flat ls) ∙ omega (arith, flat-none (c + 1) ls (k .2) (omega arith))
-    flat-from c (suc d) (l ∷ ls) k e = times-append x l (flat ls) ∙ omega (arith, flat-from (c + 1) d ls (k .2) (omega arith), none-chain c (wordAt w b (index (shape w) + w * c)) l (k .1) (λ z. omega arith))
+    flat-from c (suc d) (l ∷ ls) k e = times-append x l (flat ls) ∙ omega (arith, flat-from (c + 1) d ls (k .2) (omega arith), none-chain c (wordAt w b (headAt (shape w) c)) l (k .1) (λ z. omega arith))
 
     flat-class : (ls : List (List ℕ)) → Chains w b end 0 ls → times x (flat ls) ≡ times x (getD ls class [])
     flat-class ls k = flat-from 0 class ls k (omega arith)
 
     -- an item on the lists, and it is there once
-    pub flat-item : (ls : List (List ℕ)) → Chains w b end 0 ls → 1 ≤ times x (flat ls) → ItemAt w b end class x
-    flat-item ls k q = chain-item wd b end class (wordAt w b (index (shape w) + w * class)) x (getD ls class []) (chains-at wd b end ls k class (class-few wd (wordAt w b (index (shape w) + x)))) (omega (arith, q, flat-class ls k))
+    pub flat-item : (ls : List (List ℕ)) → Chains w b end 0 ls → 1 ≤ times x (flat ls) → FreeItemAt w b end class x
+    flat-item ls k q = chain-item wd b end class (wordAt w b (headAt (shape w) class)) x (getD ls class []) (chains-at wd b end ls k class (class-few wd (wordAt w b (itemAt (shape w) x)))) (omega (arith, q, flat-class ls k))
 
     pub flat-once : (ls : List (List ℕ)) → Chains w b end 0 ls → times x (flat ls) ≤ 1
-    flat-once ls k = omega (arith, flat-class ls k, chain-few wd b end class (wordAt w b (index (shape w) + w * class)) x (getD ls class []) (chains-at wd b end ls k class (class-few wd (wordAt w b (index (shape w) + x)))))
+    flat-once ls k = omega (arith, flat-class ls k, chain-few wd b end class (wordAt w b (headAt (shape w) class)) x (getD ls class []) (chains-at wd b end ls k class (class-few wd (wordAt w b (itemAt (shape w) x)))))
 
-module _ {w : ℕ} (wd : Width w) (b : List ℕ) (end : ℕ) (m₀ m : List ℕ) (clear : Clear w m₀ 0) (walk : Walk w b end (start (shape w)) 0 0 (wordAt w b (8 + 2 * w)) m₀ m) where
-  mark : (j : ℕ) → bitAt m j ≡ times (w * j - index (shape w)) (freeItems w (start (shape w)) (walk .run .rest))
+module _ {w : ℕ} (wd : Width w) (b : List ℕ) (end : ℕ) (m₀ m : List ℕ) (clear : NoMarks w m₀ 0) (walk : BlocksMarked w b end (start (shape w)) 0 false (wordAt w b (firstFreeAt (shape w))) m₀ m) where
+  mark : (j : ℕ) → bitAt m j ≡ times (offsetAtBit w j) (freeItems w (start (shape w)) (walk .onward .rest))
   mark j = omega (arith, walk .adds .at j, clear .from j (omega arith))
 
   -- the end of a list has no mark
-  pub base-clear : bitAt m (base w) ≡ 0
-  base-clear =
-      let f : bitAt m (base w) ≡ times 0 (freeItems w (start (shape w)) (walk .run .rest)) = rw (base-at wd) at (mark (base w)) in
+  pub index-clear : bitAt m (indexBit w) ≡ 0
+  index-clear =
+      let f : bitAt m (indexBit w) ≡ times 0 (freeItems w (start (shape w)) (walk .onward .rest)) = rw (index-offset wd) at (mark (indexBit w)) in
       f
-      ∙ free-class wd b 0 (start (shape w)) 0 (walk .run .rest) (omega arith) (walk .run .reads)
-      ∙ go (decLe 1 (times 0 (idleItems (shape w) (class wd b 0) (start (shape w)) (walk .run .rest))))
+      ∙ free-class wd b 0 (start (shape w)) 0 (walk .onward .rest) (omega arith) (walk .onward .reads)
+      ∙ go (decLe 1 (times 0 (idleItems (shape w) (class wd b 0) (start (shape w)) (walk .onward .rest))))
     where
-      go : Dec (1 ≤ times 0 (idleItems (shape w) (class wd b 0) (start (shape w)) (walk .run .rest))) → times 0 (idleItems (shape w) (class wd b 0) (start (shape w)) (walk .run .rest)) ≡ 0
-      go (yes i) = absurd (omega (arith, items-off wd (class wd b 0) 0 (start (shape w)) (walk .run .rest) (walk .run .allowed) (omega arith) (start-eight wd) i .low))
+      go : Dec (1 ≤ times 0 (idleItems (shape w) (class wd b 0) (start (shape w)) (walk .onward .rest))) → times 0 (idleItems (shape w) (class wd b 0) (start (shape w)) (walk .onward .rest)) ≡ 0
+      go (yes i) = absurd (omega (arith, items-off wd (class wd b 0) 0 (start (shape w)) (walk .onward .rest) (walk .onward .allowed) (omega arith) (start-eight wd) i .low))
       go (no i) = omega arith
 
   pub agree-filled : Listed w b end m → Filled w b end
-  agree-filled k = record { run = walk .run; lists = k .lists; chains = k .chains; same = λ c x h. go c x h (decLe 1 (times x (getD (k .lists) c []))) (decLe 1 (times x (idleItems (shape w) c (start (shape w)) (walk .run .rest)))) }
+  agree-filled k = record { onward = walk .onward; lists = k .lists; chains = k .chains; same = λ c x h. go c x h (decLe 1 (times x (getD (k .lists) c []))) (decLe 1 (times x (idleItems (shape w) c (start (shape w)) (walk .onward .rest)))) }
     where
-      at : (x : ℕ) → x % w ≡ 0 → times x (getD (k .lists) (class wd b x) []) ≡ times x (idleItems (shape w) (class wd b x) (start (shape w)) (walk .run .rest))
+      at : (x : ℕ) → x % w ≡ 0 → times x (getD (k .lists) (class wd b x) []) ≡ times x (idleItems (shape w) (class wd b x) (start (shape w)) (walk .onward .rest))
       at x e =
-          let f : w * ((index (shape w) + x) / w) - index (shape w) ≡ x = offset-back wd x e in
+          let f : offsetAtBit w (offsetBit w x) ≡ x = offset-back wd x e in
           sym (flat-class wd b x end (k .lists) (k .chains))
-          ∙ (let g : times x (flat (k .lists)) ≡ times x (freeItems w (start (shape w)) (walk .run .rest)) = rw f at (sym (k .marks ((index (shape w) + x) / w)) ∙ mark ((index (shape w) + x) / w)) in g)
-          ∙ free-class wd b x (start (shape w)) 0 (walk .run .rest) (omega arith) (walk .run .reads)
+          ∙ (let g : times x (flat (k .lists)) ≡ times x (freeItems w (start (shape w)) (walk .onward .rest)) = rw f at (sym (k .marks (offsetBit w x)) ∙ mark (offsetBit w x)) in g)
+          ∙ free-class wd b x (start (shape w)) 0 (walk .onward .rest) (omega arith) (walk .onward .reads)
 
-      go : (c x : ℕ) → c < 4 * w → Dec (1 ≤ times x (getD (k .lists) c [])) → Dec (1 ≤ times x (idleItems (shape w) c (start (shape w)) (walk .run .rest))) → times x (getD (k .lists) c []) ≡ times x (idleItems (shape w) c (start (shape w)) (walk .run .rest))
+      go : (c x : ℕ) → c < shape w .classes → Dec (1 ≤ times x (getD (k .lists) c [])) → Dec (1 ≤ times x (idleItems (shape w) c (start (shape w)) (walk .onward .rest))) → times x (getD (k .lists) c []) ≡ times x (idleItems (shape w) c (start (shape w)) (walk .onward .rest))
       go c x h (yes i) d =
-          let it = chain-item wd b end c (wordAt w b (index (shape w) + w * c)) x (getD (k .lists) c []) (chains-at wd b end (k .lists) (k .chains) c h) i in
+          let it = chain-item wd b end c (wordAt w b (headAt (shape w) c)) x (getD (k .lists) c []) (chains-at wd b end (k .lists) (k .chains) c h) i in
           let e : c ≡ class wd b x = omega (arith, it .header) in
           rw e (at x (it .even))
       go c x h (no n) (yes i) =
-          let e : c ≡ class wd b x = omega (arith, items-header wd b c x (start (shape w)) 0 (walk .run .rest) (omega arith) (walk .run .reads) i) in
-          rw e (at x (items-off wd c x (start (shape w)) (walk .run .rest) (walk .run .allowed) (omega arith) (start-eight wd) i .even))
+          let e : c ≡ class wd b x = omega (arith, items-header wd b c x (start (shape w)) 0 (walk .onward .rest) (omega arith) (walk .onward .reads) i) in
+          rw e (at x (items-off wd c x (start (shape w)) (walk .onward .rest) (walk .onward .allowed) (omega arith) (start-eight wd) i .even))
       go c x h (no n) (no i) = omega arith
 
   pub agree-listed : Filled w b end → Listed w b end m
-  agree-listed f = record { lists = f .lists; chains = f .chains; marks = λ j. mark j ∙ at (w * j - index (shape w)) }
+  agree-listed f = record { lists = f .lists; chains = f .chains; marks = λ j. mark j ∙ at (offsetAtBit w j) }
     where
-      at : (x : ℕ) → times x (freeItems w (start (shape w)) (walk .run .rest)) ≡ times x (flat (f .lists))
+      at : (x : ℕ) → times x (freeItems w (start (shape w)) (walk .onward .rest)) ≡ times x (flat (f .lists))
       at x =
-          free-class wd b x (start (shape w)) 0 (walk .run .rest) (omega arith) (walk .run .reads)
-          ∙ ap (λ (l : List Block). times x (idleItems (shape w) (class wd b x) (start (shape w)) l)) (blocks-one wd b (start (shape w)) 0 0 (walk .run .rest) (f .run .rest) (walk .run .reads) (f .run .reads) (walk .run .allowed) (f .run .allowed) (walk .run .fills ∙ sym (f .run .fills)))
-          ∙ sym (f .same (class wd b x) x (class-few wd (wordAt w b (index (shape w) + x))))
+          free-class wd b x (start (shape w)) 0 (walk .onward .rest) (omega arith) (walk .onward .reads)
+          ∙ ap (λ (l : List Block). times x (idleItems (shape w) (class wd b x) (start (shape w)) l)) (blocks-one wd b (start (shape w)) 0 0 (walk .onward .rest) (f .onward .rest) (walk .onward .reads) (f .onward .reads) (walk .onward .allowed) (f .onward .allowed) (walk .onward .fills ∙ sym (f .onward .fills)))
+          ∙ sym (f .same (class wd b x) x (class-few wd (wordAt w b (itemAt (shape w) x))))
           ∙ sym (flat-class wd b x end (f .lists) (f .chains))

@@ -11,12 +11,12 @@ use borrow.Author.Tests.{eq-eqb, ne-eqb}
 use Rattle.words.specs.Width.{Width}
 use Rattle.words.specs.Bits.{bitAt, marked}
 use Rattle.words.proofs.BitLaws.{marked-same, marked-other}
-use Rattle.model.specs.Shape.{shape, index}
+use Rattle.model.specs.Shape.{shape, index, itemAt}
 use Rattle.model.specs.Sound.{times}
 use Rattle.model.proofs.pictures.Drawn.{times-append}
-use Rattle.sound.specs.Maps.{Adds, Marked, Clear}
-use Rattle.sound.specs.Parts.{Marking}
-use Rattle.sound.proofs.Places.{whole, times-same, bit-room}
+use Rattle.sound.specs.Maps.{Adds, Marked, NoMarks, itemBit, atBit, offsetAtBit, mapEnd}
+use Rattle.sound.specs.Told.{Marking}
+use Rattle.sound.proofs.Places.{whole, bits-same, bit-room}
 
 -- a list without one of x
 unfoldable pub remove : ℕ → List ℕ → List ℕ
@@ -82,30 +82,30 @@ marked-at m i u e j = go (ℕ-discrete j i)
 
 module _ {w : ℕ} (wd : Width w) where
   -- bit i is the mark of the item at offset o
-  pub same-bit : (i j o : ℕ) → index (shape w) + o ≡ w * i → (o ≡ 0 → ⊥) → _≡_ {A = ℕ} (cond (eqb (w * j - index (shape w)) o) 1 0) (cond (eqb j i) 1 0)
+  pub same-bit : (i j o : ℕ) → itemAt (shape w) o ≡ atBit w i → (o ≡ 0 → ⊥) → _≡_ {A = ℕ} (cond (eqb (offsetAtBit w j) o) 1 0) (cond (eqb j i) 1 0)
   same-bit i j o e z = go (ℕ-discrete j i)
     where
-      go : Dec (j ≡ i) → _≡_ {A = ℕ} (cond (eqb (w * j - index (shape w)) o) 1 0) (cond (eqb j i) 1 0)
-      go (yes q) = rw (eq-eqb j i q, eq-eqb (w * j - index (shape w)) o (omega (arith, ap (λ (x : ℕ). w * x) q))) refl
-      go (no q) = rw (ne-eqb j i q, ne-eqb (w * j - index (shape w)) o (λ k. q (times-same wd j i (omega arith)))) refl
+      go : Dec (j ≡ i) → _≡_ {A = ℕ} (cond (eqb (offsetAtBit w j) o) 1 0) (cond (eqb j i) 1 0)
+      go (yes q) = rw (eq-eqb j i q, eq-eqb (offsetAtBit w j) o (omega (arith, ap (λ (x : ℕ). w * x) q))) refl
+      go (no q) = rw (ne-eqb j i q, ne-eqb (offsetAtBit w j) o (λ k. q (bits-same wd j i (omega arith)))) refl
 
   pub adds-none : (m : List ℕ) → Adds w m m []
   unfolding times
   adds-none m = record { at = λ j. omega arith }
 
   pub adds-append : {m m₁ m₂ : List ℕ} (l k : List ℕ) → Adds w m m₁ l → Adds w m₁ m₂ k → Adds w m m₂ (l ++ k)
-  adds-append l k f g = record { at = λ j. omega (arith, f .at j, g .at j, times-append (w * j - index (shape w)) l k) }
+  adds-append l k f g = record { at = λ j. omega (arith, f .at j, g .at j, times-append (offsetAtBit w j) l k) }
 
   -- a mark set first
-  pub adds-mark : {m m₁ m′ : List ℕ} {l : List ℕ} (i o : ℕ) → i / 64 < length m → bitAt m i ≡ 0 → m₁ ≡ marked m i → index (shape w) + o ≡ w * i → (o ≡ 0 → ⊥) → Adds w m₁ m′ l → Adds w m m′ (o ∷ l)
+  pub adds-mark : {m m₁ m′ : List ℕ} {l : List ℕ} (i o : ℕ) → i / 64 < length m → bitAt m i ≡ 0 → m₁ ≡ marked m i → itemAt (shape w) o ≡ atBit w i → (o ≡ 0 → ⊥) → Adds w m₁ m′ l → Adds w m m′ (o ∷ l)
   unfolding times
   adds-mark {m} {m₁} {m′} {l} i o u c e p z f = record { at = λ j. go j (f .at j) }
     where
-      go : (j : ℕ) → bitAt m′ j ≡ bitAt m₁ j + times (w * j - index (shape w)) l → bitAt m′ j ≡ bitAt m j + (cond (eqb (w * j - index (shape w)) o) 1 0 + times (w * j - index (shape w)) l)
+      go : (j : ℕ) → bitAt m′ j ≡ bitAt m₁ j + times (offsetAtBit w j) l → bitAt m′ j ≡ bitAt m j + (cond (eqb (offsetAtBit w j) o) 1 0 + times (offsetAtBit w j) l)
       go j k = rw (same-bit i j o p z) (omega (arith, k, ap (λ (x : List ℕ). bitAt x j) e, marked-at m i u c j))
 
 -- the number of marks
-pub marked-none : {w : ℕ} {m : List ℕ} → Clear w m 0 → Marked m 1
+pub marked-none : {w : ℕ} {m : List ℕ} → NoMarks w m 0 → Marked m 1
 unfolding times
 marked-none k = record { list = []; marks = λ j. k .from j (omega arith); count = refl }
 
@@ -120,10 +120,10 @@ marked-pos k e = omega (arith, k .count)
 pub marking-on : {w : ℕ} {m : List ℕ} {n p q : ℕ} → p ≤ q → Marking w m n p → Marking w m n q
 marking-on l k = record { marked = k .marked; clear = record { from = λ j h. k .clear .from j (omega arith) }; few = omega (arith, k .few) }
 
-pub marking-more : {w : ℕ} → Width w → {m m₁ : List ℕ} {n q : ℕ} (s : ℕ) → q % w ≡ 0 → q < w * (64 * length m) → w ≤ s → m₁ ≡ marked m (q / w) → Marking w m n q → Marking w m₁ (n + 1) (q + s)
+pub marking-more : {w : ℕ} → Width w → {m m₁ : List ℕ} {n q : ℕ} (s : ℕ) → q % w ≡ 0 → q < mapEnd w (length m) → w ≤ s → m₁ ≡ marked m (itemBit w q) → Marking w m n q → Marking w m₁ (n + 1) (q + s)
 marking-more {w} wd {m} {m₁} {n} {q} s a u l e k =
     record {
-      marked = marked-more (q / w) (bit-room wd q (length m) u) (k .clear .from (q / w) (omega (arith, whole wd q a))) e (k .marked);
+      marked = marked-more (itemBit w q) (bit-room wd q (length m) u) (k .clear .from (itemBit w q) (omega (arith, whole wd q a))) e (k .marked);
       clear = record { from = λ j h. go j h (k .clear .from j (omega arith)) };
       few = omega (arith, k .few);
     }
@@ -131,9 +131,9 @@ marking-more {w} wd {m} {m₁} {n} {q} s a u l e k =
     go : (j : ℕ) → q + s ≤ w * j → bitAt m j ≡ 0 → bitAt m₁ j ≡ 0
     go j h z =
         ap (λ (x : List ℕ). bitAt x j) e
-        ∙ marked-at m (q / w) (bit-room wd q (length m) u) (k .clear .from (q / w) (omega (arith, whole wd q a))) j
-        ∙ rw (ne-eqb j (q / w) (λ y. omega (arith, whole wd q a, ap (λ (x : ℕ). w * x) y))) (omega arith)
+        ∙ marked-at m (itemBit w q) (bit-room wd q (length m) u) (k .clear .from (itemBit w q) (omega (arith, whole wd q a))) j
+        ∙ rw (ne-eqb j (itemBit w q) (λ y. omega (arith, whole wd q a, ap (λ (x : ℕ). w * x) y))) (omega arith)
 
 -- a map that keeps its length is as large as before
-pub map-kept : (w end a b : ℕ) → a ≡ b → end ≤ w * (64 * b) → end ≤ w * (64 * a)
+pub map-kept : (w end a b : ℕ) → a ≡ b → end ≤ mapEnd w b → end ≤ mapEnd w a
 map-kept w end a b e h = rw e h

@@ -6,13 +6,14 @@ use native.Mathlib.Omega.{arith}
 use lib.ListN.{length}
 use Rattle.words.specs.Width.{Width}
 use Rattle.model.specs.Shape.{shape, itemSize, endOf, start}
+use Rattle.model.specs.Parts.{tagOf, firstItemAt}
 use Rattle.model.specs.Layout.{Slot, idle, held, Use, variable, page, Block, free, used, useSize, sizeOf, ends}
 use Rattle.model.specs.Sound.{AllowedUse, Allowed, AllAllowed}
 use Rattle.model.specs.Promises.{OneLayout}
 use Rattle.model.proofs.blocks.Blocks.{le-ends}
-use Rattle.sound.specs.Runs.{Slots, flagOf, Headers, Reads}
+use Rattle.sound.specs.Onward.{Slots, kindOf, Headers, Reads}
 use Rattle.sound.proofs.Pages.{page-class}
-use Rattle.sound.proofs.Walks.{use-size, use-flag}
+use Rattle.sound.proofs.Walks.{use-size, use-kind}
 use Rattle.sound.proofs.Chained.{same-chains}
 use Rattle.sound.proofs.HereFilled.{here-reads, here-chains}
 use Rattle.words.specs.Word.{wordAt}
@@ -29,19 +30,19 @@ module _ {w : ℕ} (wd : Width w) where
   slots-one b c p (idle ∷ ss) (held ∷ ts) e h k = absurd (not-both wd (wordAt w b p) c (h .0) (k .0))
   slots-one b c p (held ∷ ss) (idle ∷ ts) e h k = absurd (not-both wd (wordAt w b p) c (k .0) (h .0))
 
-  pages-one : (b : List ℕ) (p c k j : ℕ) (ss ts : List Slot) → AllowedUse (shape w) (page c k ss) → AllowedUse (shape w) (page c j ts) → useSize (shape w) (page c k ss) ≡ useSize (shape w) (page c j ts) → Slots w b c (p + w) ss → Slots w b c (p + w) ts → page c k ss ≡ page c j ts
+  pages-one : (b : List ℕ) (p c k j : ℕ) (ss ts : List Slot) → AllowedUse (shape w) (page c k ss) → AllowedUse (shape w) (page c j ts) → useSize (shape w) (page c k ss) ≡ useSize (shape w) (page c j ts) → Slots w b c (firstItemAt (shape w) p) ss → Slots w b c (firstItemAt (shape w) p) ts → page c k ss ≡ page c j ts
   unfolding AllowedUse useSize
   pages-one b p c k j ss ts a b′ e h g =
       let n : length ss ≡ length ts = a .1 ∙ sym (b′ .1) in
-      ap₂ (λ (x : ℕ) (y : List Slot). page c x y) (omega (arith, e, ap (λ (x : ℕ). x * itemSize (shape w) c) n)) (slots-one b c (p + w) ss ts n h g)
+      ap₂ (λ (x : ℕ) (y : List Slot). page c x y) (omega (arith, e, ap (λ (x : ℕ). x * itemSize (shape w) c) n)) (slots-one b c (firstItemAt (shape w) p) ss ts n h g)
 
-  use-one : (b : List ℕ) (p : ℕ) (u v : Use) → AllowedUse (shape w) u → AllowedUse (shape w) v → useSize (shape w) u + flagOf u ≡ useSize (shape w) v + flagOf v → Headers w b p u → Headers w b p v → u ≡ v
-  unfolding flagOf Headers
+  use-one : (b : List ℕ) (p : ℕ) (u v : Use) → AllowedUse (shape w) u → AllowedUse (shape w) v → tagOf (useSize (shape w) u) (kindOf u) ≡ tagOf (useSize (shape w) v) (kindOf v) → Headers w b p u → Headers w b p v → u ≡ v
+  unfolding kindOf Headers
   use-one b p (variable s) (variable t) a b′ e h k = unfold useSize in ap (λ (x : ℕ). variable x) (omega (arith, e))
   use-one b p (variable s) (page d j ts) a b′ e h k = absurd (omega (arith, use-size wd (variable s) a, use-size wd (page d j ts) b′))
   use-one b p (page c i ss) (variable t) a b′ e h k = absurd (omega (arith, use-size wd (page c i ss) a, use-size wd (variable t) b′))
   use-one b p (page c i ss) (page d j ts) a b′ e h k =
-      subst (λ (x : ℕ). AllowedUse (shape w) (page x j ts) → useSize (shape w) (page c i ss) ≡ useSize (shape w) (page x j ts) → Slots w b x (p + w) ts → page c i ss ≡ page x j ts)
+      subst (λ (x : ℕ). AllowedUse (shape w) (page x j ts) → useSize (shape w) (page c i ss) ≡ useSize (shape w) (page x j ts) → Slots w b x (firstItemAt (shape w) p) ts → page c i ss ≡ page x j ts)
       (page-class wd b c i p ss a h ∙ sym (page-class wd b d j p ts b′ k)) (λ b″ f g. pages-one b p c i j ss ts a b″ f h g) b′ (omega (arith, e)) k
 
   pub blocks-one : (b : List ℕ) (p prev prev′ : ℕ) (bs cs : List Block) → Reads w b p prev bs → Reads w b p prev′ cs → AllAllowed (shape w) bs → AllAllowed (shape w) cs → ends (shape w) p bs ≡ ends (shape w) p cs → bs ≡ cs
@@ -51,8 +52,8 @@ module _ {w : ℕ} (wd : Width w) where
   blocks-one b p q r [] (used u ∷ cs) h k a d e = absurd (omega (arith, le-ends (shape w) (p + useSize (shape w) u) cs, use-size wd u (d .0)))
   blocks-one b p q r (free s ∷ bs) [] h k a d e = absurd (omega (arith, le-ends (shape w) (p + s) bs, a .0 .0))
   blocks-one b p q r (used u ∷ bs) [] h k a d e = absurd (omega (arith, le-ends (shape w) (p + useSize (shape w) u) bs, use-size wd u (a .0)))
-  blocks-one b p q r (free s ∷ bs) (used u ∷ cs) h k a d e = absurd (omega (arith, h .0 .0, k .0 .0, a .0 .1, use-size wd u (d .0), use-flag u))
-  blocks-one b p q r (used u ∷ bs) (free s ∷ cs) h k a d e = absurd (omega (arith, h .0 .0, k .0 .0, d .0 .1, use-size wd u (a .0), use-flag u))
+  blocks-one b p q r (free s ∷ bs) (used u ∷ cs) h k a d e = absurd (omega (arith, h .0 .0, k .0 .0, a .0 .1, use-size wd u (d .0), use-kind u))
+  blocks-one b p q r (used u ∷ bs) (free s ∷ cs) h k a d e = absurd (omega (arith, h .0 .0, k .0 .0, d .0 .1, use-size wd u (a .0), use-kind u))
   blocks-one b p q r (free s ∷ bs) (free t ∷ cs) h k a d e =
       let f : t ≡ s = sym (k .0 .0) ∙ h .0 .0 in
       ap₂ (λ (x : ℕ) (xs : List Block). free x ∷ xs) (sym f) (blocks-one b (p + s) p p bs cs (h .1) (rw f at (k .1)) (a .1) (d .1) (rw f at e))

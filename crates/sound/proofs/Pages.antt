@@ -7,20 +7,21 @@ use lib.ListN.{length}
 use Rattle.words.specs.Width.{Width}
 use Rattle.words.specs.Word.{wordAt}
 use Rattle.words.specs.Bits.{marked}
-use Rattle.model.specs.Shape.{shape, itemSize, index, start, leastVariable}
+use Rattle.model.specs.Shape.{shape, itemSize, index, start, leastFree, leastVariable, pageNeed}
+use Rattle.model.specs.Parts.{variableKind, pageKind, freeMark, heldHeader, classAndFlags, classIn, farTagAt, firstItemAt}
 use Rattle.model.specs.Layout.{Slot, idle, held, Use, variable, page, useSize}
 use Rattle.model.specs.Sound.{AllowedUse, idleSlots}
 use Rattle.model.proofs.Sizes.{per-page-bound, page-items-bound, item-even, class-few, class-held, page-eight, first-even}
-use Rattle.sound.specs.Runs.{Slots, Items, flagOf, Headers, UseAt, freeIn}
-use Rattle.sound.specs.Maps.{Clear}
-use Rattle.sound.specs.Parts.{Marking, ItemsRoom, ItemsMarked, ItemsTold, UseRoom, UseMarked, UseTold}
+use Rattle.sound.specs.Onward.{Slots, Items, kindOf, Headers, UseAt, freeIn}
+use Rattle.sound.specs.Maps.{NoMarks, itemBit, mapEnd}
+use Rattle.sound.specs.Told.{Marking, MarkRoom, ItemsMarked, ItemsTold, UseRoom, UseMarked, UseTold}
 use Rattle.sound.proofs.MapLaws.{adds-none, adds-mark, marking-on, marking-more, marked-pos, length-marked}
 use Rattle.sound.proofs.Places.{whole, bit-room}
 
 -- a header of an item of class c: of a free one, or of one in use
 pub data Header (w : ℕ) (b : List ℕ) (c q : ℕ) : Type 0 where
-  of-idle : wordAt w b q % (16 * w) ≡ 4 * c + 1 → Header w b c q
-  of-held : wordAt w b q ≡ 4 * c + 3 → Header w b c q
+  of-idle : classAndFlags (shape w) (wordAt w b q) ≡ freeMark c → Header w b c q
+  of-held : wordAt w b q ≡ heldHeader c → Header w b c q
 
 pub items-in : {w : ℕ} (b : List ℕ) (c q n : ℕ) → (n ≡ 0 → ⊥) → Items w b c q n → Header w b c q × Items w b c (q + itemSize (shape w) c) (n - 1)
 unfolding Slots
@@ -35,16 +36,16 @@ items-none : {w : ℕ} → Width w → (b : List ℕ) (c q : ℕ) (m : List ℕ)
 unfolding Slots idleSlots
 items-none wd b c q m = record { items = record { slots = []; count = refl; headers = tt }; adds = adds-none wd m }
 
-items-idle : {w : ℕ} → Width w → {b : List ℕ} {c q n : ℕ} {m m₁ m′ : List ℕ} → (n ≡ 0 → ⊥) → wordAt w b q % (16 * w) ≡ 4 * c + 1 → start (shape w) + w ≤ q → q % w ≡ 0 → q < w * (64 * length m) → Clear w m q
-    → m₁ ≡ marked m (q / w) → ItemsMarked w b c (q + itemSize (shape w) c) (n - 1) m₁ m′ → ItemsMarked w b c q n m m′
+items-idle : {w : ℕ} → Width w → {b : List ℕ} {c q n : ℕ} {m m₁ m′ : List ℕ} → (n ≡ 0 → ⊥) → classAndFlags (shape w) (wordAt w b q) ≡ freeMark c → start (shape w) + w ≤ q → q % w ≡ 0 → q < mapEnd w (length m) → NoMarks w m q
+    → m₁ ≡ marked m (itemBit w q) → ItemsMarked w b c (q + itemSize (shape w) c) (n - 1) m₁ m′ → ItemsMarked w b c q n m m′
 unfolding Slots idleSlots
 items-idle {w} wd {b} {c} {q} {n} {m} z e low a u k em r =
     record {
       items = record { slots = idle ∷ r .items .slots; count = omega (arith, r .items .count); headers = (e, r .items .headers) };
-      adds = adds-mark wd (q / w) (q - index (shape w)) (bit-room wd q (length m) u) (k .from (q / w) (omega (arith, whole wd q a))) em (omega (arith, whole wd q a)) (λ y. omega arith) (r .adds);
+      adds = adds-mark wd (itemBit w q) (q - index (shape w)) (bit-room wd q (length m) u) (k .from (itemBit w q) (omega (arith, whole wd q a))) em (omega (arith, whole wd q a)) (λ y. omega arith) (r .adds);
     }
 
-items-held : {w : ℕ} {b : List ℕ} {c q n : ℕ} {m m′ : List ℕ} → (n ≡ 0 → ⊥) → wordAt w b q ≡ 4 * c + 3 → ItemsMarked w b c (q + itemSize (shape w) c) (n - 1) m m′ → ItemsMarked w b c q n m m′
+items-held : {w : ℕ} {b : List ℕ} {c q n : ℕ} {m m′ : List ℕ} → (n ≡ 0 → ⊥) → wordAt w b q ≡ heldHeader c → ItemsMarked w b c (q + itemSize (shape w) c) (n - 1) m m′ → ItemsMarked w b c q n m m′
 unfolding Slots idleSlots
 items-held z e r = record { items = record { slots = held ∷ r .items .slots; count = omega (arith, r .items .count); headers = (e, r .items .headers) }; adds = r .adds }
 
@@ -58,10 +59,10 @@ pub record ItemsInv (w : ℕ) (b m₀ : List ℕ) (first stop c : ℕ) (m : List
   pub marking : Marking w m n q
   pub low : start (shape w) + w ≤ q
   pub even : q % w ≡ 0
-  pub map : stop ≤ w * (64 * length m)
+  pub map : stop ≤ mapEnd w (length m)
   pub size : length m ≡ length m₀
 
-pub items-start : {w : ℕ} {b m : List ℕ} {q stop c n : ℕ} → ItemsRoom w b m q stop c n → ItemsInv w b m q stop c m n q
+pub items-start : {w : ℕ} {b m : List ℕ} {q stop c n : ℕ} → MarkRoom w b m q stop c n → ItemsInv w b m q stop c m n q
 items-start r = record { width = r .width; left = _; stops = r .stops; ahead = λ i. i; back = λ m′ i. i; marking = r .marking; low = r .low; even = r .even; map = r .map; size = refl }
 
 pred-mul : (m k : ℕ) → (m ≡ 0 → ⊥) → k + (m - 1) * k ≡ m * k
@@ -76,7 +77,7 @@ module _ {w : ℕ} {b m₀ : List ℕ} {first stop c : ℕ} {m : List ℕ} {n q 
   items-fit h = omega (arith, i .stops, pred-mul (i .left) (itemSize (shape w) c) (items-some h))
 
   -- a header that is neither
-  pub items-wrong : q < stop → (x : ℕ) → x ≡ wordAt w b q → (x % (16 * w) ≡ 4 * c + 1 → ⊥) → (x ≡ 4 * c + 3 → ⊥) → (m′ : List ℕ) → ItemsTold w b m₀ first stop c 0 m′
+  pub items-wrong : q < stop → (x : ℕ) → x ≡ wordAt w b q → (classAndFlags (shape w) x ≡ freeMark c → ⊥) → (x ≡ heldHeader c → ⊥) → (m′ : List ℕ) → ItemsTold w b m₀ first stop c 0 m′
   items-wrong h x e f g m′ =
       record { is-no = λ _ k. go (items-in b c q (i .left) (items-some h) (i .ahead k) .0); is-yes = λ z. absurd (z refl); marking = λ z. absurd (z refl) }
     where
@@ -84,7 +85,7 @@ module _ {w : ℕ} {b m₀ : List ℕ} {first stop c : ℕ} {m : List ℕ} {n q 
       go (of-idle y) = f (rw e y)
       go (of-held y) = g (e ∙ y)
 
-  pub items-turn-idle : q < stop → (x : ℕ) → x ≡ wordAt w b q → x % (16 * w) ≡ 4 * c + 1 → (m₁ : List ℕ) → m₁ ≡ marked m (q / w) → (s : ℕ) → s ≡ itemSize (shape w) c → ItemsInv w b m₀ first stop c m₁ (n + 1) (q + s)
+  pub items-turn-idle : q < stop → (x : ℕ) → x ≡ wordAt w b q → classAndFlags (shape w) x ≡ freeMark c → (m₁ : List ℕ) → m₁ ≡ marked m (itemBit w q) → (s : ℕ) → s ≡ itemSize (shape w) c → ItemsInv w b m₀ first stop c m₁ (n + 1) (q + s)
   items-turn-idle h x e f m₁ em s es =
       rw es (record {
         width = i .width;
@@ -95,11 +96,11 @@ module _ {w : ℕ} {b m₀ : List ℕ} {first stop c : ℕ} {m : List ℕ} {n q 
         marking = marking-more (i .width) (itemSize (shape w) c) (i .even) (omega (arith, i .map)) (omega arith) em (i .marking);
         low = omega (arith, i .low);
         even = item-even (i .width) q c (i .even);
-        map = rw (length-marked m m₁ (q / w) em) (i .map);
-        size = length-marked m m₁ (q / w) em ∙ i .size;
+        map = rw (length-marked m m₁ (itemBit w q) em) (i .map);
+        size = length-marked m m₁ (itemBit w q) em ∙ i .size;
       })
 
-  pub items-turn-held : q < stop → (x : ℕ) → x ≡ wordAt w b q → x ≡ 4 * c + 3 → (s : ℕ) → s ≡ itemSize (shape w) c → ItemsInv w b m₀ first stop c m n (q + s)
+  pub items-turn-held : q < stop → (x : ℕ) → x ≡ wordAt w b q → x ≡ heldHeader c → (s : ℕ) → s ≡ itemSize (shape w) c → ItemsInv w b m₀ first stop c m n (q + s)
   items-turn-held h x e f s es =
       rw es (record {
         width = i .width;
@@ -129,118 +130,118 @@ module _ {w : ℕ} {b m₀ : List ℕ} {first stop c : ℕ} {m : List ℕ} {n q 
 
 -- the class that the first header of a page at p says
 abbrev pub classAt : ℕ → List ℕ → ℕ → ℕ
-classAt w b p = wordAt w b (p + w) % (16 * w) / 4
+classAt w b p = classIn (shape w) (wordAt w b (firstItemAt (shape w) p))
 
-header-class : {w : ℕ} → Width w → (b : List ℕ) (c q : ℕ) → c < 4 * w → Header w b c q → c ≡ wordAt w b q % (16 * w) / 4
+header-class : {w : ℕ} → Width w → (b : List ℕ) (c q : ℕ) → c < shape w .classes → Header w b c q → c ≡ classIn (shape w) (wordAt w b q)
 header-class wd b c q h (of-idle e) = omega arith
-header-class {w} wd b c q h (of-held e) = sym (ap (λ (x : ℕ). x % (16 * w) / 4) e ∙ class-held wd c 0 h)
+header-class {w} wd b c q h (of-held e) = sym (ap (λ (x : ℕ). classIn (shape w) x) e ∙ class-held wd c 0 h)
 
-pub page-class : {w : ℕ} → Width w → (b : List ℕ) (c k p : ℕ) (ss : List Slot) → AllowedUse (shape w) (page c k ss) → Slots w b c (p + w) ss → c ≡ classAt w b p
+pub page-class : {w : ℕ} → Width w → (b : List ℕ) (c k p : ℕ) (ss : List Slot) → AllowedUse (shape w) (page c k ss) → Slots w b c (firstItemAt (shape w) p) ss → c ≡ classAt w b p
 unfolding AllowedUse
-page-class {w} wd b c k p ss a h = header-class wd b c (p + w) (a .0) (items-in b c (p + w) (shape w .perPage c) (λ z. omega (arith, per-page-bound wd c)) (record { slots = ss; count = a .1; headers = h }) .0)
+page-class {w} wd b c k p ss a h = header-class wd b c (firstItemAt (shape w) p) (a .0) (items-in b c (firstItemAt (shape w) p) (shape w .perPage c) (λ z. omega (arith, per-page-bound wd c)) (record { slots = ss; count = a .1; headers = h }) .0)
 
 -- what holds of a page
 pub record PageIs (w : ℕ) (b : List ℕ) (p s c : ℕ) : Type 0 where
-  pub least-size : 2 * w + shape w .perPage c * itemSize (shape w) c ≤ s
-  pub most-size : s < 6 * w + shape w .perPage c * itemSize (shape w) c
-  pub items : Items w b c (p + w) (shape w .perPage c)
+  pub least-size : pageNeed (shape w) c ≤ s
+  pub most-size : s < pageNeed (shape w) c + leastFree (shape w)
+  pub items : Items w b c (firstItemAt (shape w) p) (shape w .perPage c)
 
-page-is : {w : ℕ} (b : List ℕ) (p s c k : ℕ) (ss : List Slot) → AllowedUse (shape w) (page c k ss) → useSize (shape w) (page c k ss) ≡ s → Slots w b c (p + w) ss → PageIs w b p s c
+page-is : {w : ℕ} (b : List ℕ) (p s c k : ℕ) (ss : List Slot) → AllowedUse (shape w) (page c k ss) → useSize (shape w) (page c k ss) ≡ s → Slots w b c (firstItemAt (shape w) p) ss → PageIs w b p s c
 unfolding AllowedUse useSize
 page-is {w} b p s c k ss a e h =
-    let z : 2 * w + shape w .perPage c * itemSize (shape w) c + k ≡ s = rw (a .1) at e in
+    let z : pageNeed (shape w) c + k ≡ s = rw (a .1) at e in
     record { least-size = omega (arith, z); most-size = omega (arith, z, a .2); items = record { slots = ss; count = a .1; headers = h } }
 
-pub page-in : {w : ℕ} → Width w → (b : List ℕ) (p s : ℕ) → UseAt w b p s 3 → PageIs w b p s (classAt w b p)
-unfolding flagOf Headers
-page-in {w} wd b p s r = go (r .use-is) (r .allowed) (r .size) (r .flag) (r .headers)
+pub page-in : {w : ℕ} → Width w → (b : List ℕ) (p s : ℕ) → UseAt w b p s pageKind → PageIs w b p s (classAt w b p)
+unfolding kindOf Headers
+page-in {w} wd b p s r = go (r .use-is) (r .allowed) (r .size) (r .kind-is) (r .headers)
   where
-    go : (u : Use) → AllowedUse (shape w) u → useSize (shape w) u ≡ s → flagOf u ≡ 3 → Headers w b p u → PageIs w b p s (classAt w b p)
+    go : (u : Use) → AllowedUse (shape w) u → useSize (shape w) u ≡ s → kindOf u ≡ pageKind → Headers w b p u → PageIs w b p s (classAt w b p)
     go (variable t) a e f h = absurd (omega arith)
     go (page c k ss) a e f h = subst (λ (x : ℕ). PageIs w b p s x) (page-class wd b c k p ss a h) (page-is b p s c k ss a e h)
 
-pub page-out : {w : ℕ} → Width w → (b : List ℕ) (p s c : ℕ) (m m′ : List ℕ) → c < 4 * w → s % 8 ≡ 0 → 2 * w + shape w .perPage c * itemSize (shape w) c ≤ s → s < 6 * w + shape w .perPage c * itemSize (shape w) c → ItemsMarked w b c (p + w) (shape w .perPage c) m m′ → UseMarked w b p s 3 m m′
-unfolding AllowedUse useSize flagOf Headers freeIn
+pub page-out : {w : ℕ} → Width w → (b : List ℕ) (p s c : ℕ) (m m′ : List ℕ) → c < shape w .classes → s % 8 ≡ 0 → pageNeed (shape w) c ≤ s → s < pageNeed (shape w) c + leastFree (shape w)
+    → ItemsMarked w b c (firstItemAt (shape w) p) (shape w .perPage c) m m′ → UseMarked w b p s pageKind m m′
+unfolding AllowedUse useSize kindOf Headers freeIn
 page-out {w} wd b p s c m m′ lc a l h i =
     record {
       use-at = record {
-        use-is = page c (s - (2 * w + shape w .perPage c * itemSize (shape w) c)) (i .items .slots);
+        use-is = page c (s - pageNeed (shape w) c) (i .items .slots);
         allowed = (lc, i .items .count, omega arith, omega (arith, page-eight wd c));
         size = rw (i .items .count) (omega arith);
-        flag = refl;
+        kind-is = refl;
         headers = i .items .headers;
       };
       adds = i .adds;
     }
 
 -- a variable block
-pub variable-in : {w : ℕ} (b : List ℕ) (p s : ℕ) → UseAt w b p s 2 → leastVariable (shape w) ≤ s
-unfolding flagOf AllowedUse useSize
-variable-in {w} b p s r = go (r .use-is) (r .allowed) (r .size) (r .flag)
+pub variable-in : {w : ℕ} (b : List ℕ) (p s : ℕ) → UseAt w b p s variableKind → leastVariable (shape w) ≤ s
+unfolding kindOf AllowedUse useSize
+variable-in {w} b p s r = go (r .use-is) (r .allowed) (r .size) (r .kind-is)
   where
-    go : (u : Use) → AllowedUse (shape w) u → useSize (shape w) u ≡ s → flagOf u ≡ 2 → leastVariable (shape w) ≤ s
+    go : (u : Use) → AllowedUse (shape w) u → useSize (shape w) u ≡ s → kindOf u ≡ variableKind → leastVariable (shape w) ≤ s
     go (variable t) a e f = omega (arith, a .0)
     go (page c k ss) a e f = absurd (omega arith)
 
-pub variable-out : {w : ℕ} → Width w → (b : List ℕ) (p s : ℕ) (m : List ℕ) → s % 8 ≡ 0 → leastVariable (shape w) ≤ s → UseMarked w b p s 2 m m
-unfolding flagOf Headers freeIn AllowedUse useSize
-variable-out wd b p s m a h = record { use-at = record { use-is = variable s; allowed = (h, a); size = refl; flag = refl; headers = tt }; adds = adds-none wd m }
+pub variable-out : {w : ℕ} → Width w → (b : List ℕ) (p s : ℕ) (m : List ℕ) → s % 8 ≡ 0 → leastVariable (shape w) ≤ s → UseMarked w b p s variableKind m m
+unfolding kindOf Headers freeIn AllowedUse useSize
+variable-out wd b p s m a h = record { use-at = record { use-is = variable s; allowed = (h, a); size = refl; kind-is = refl; headers = tt }; adds = adds-none wd m }
 
 -- no other kind
-pub other-in : {w : ℕ} (b : List ℕ) (p s f : ℕ) → (f ≡ 2 → ⊥) → (f ≡ 3 → ⊥) → UseAt w b p s f → ⊥
-unfolding flagOf
-other-in {w} b p s f n m r = go (r .use-is) (r .flag)
+pub other-in : {w : ℕ} (b : List ℕ) (p s kind : ℕ) → (kind ≡ variableKind → ⊥) → (kind ≡ pageKind → ⊥) → UseAt w b p s kind → ⊥
+unfolding kindOf
+other-in {w} b p s kind n m r = go (r .use-is) (r .kind-is)
   where
-    go : (u : Use) → flagOf u ≡ f → ⊥
+    go : (u : Use) → kindOf u ≡ kind → ⊥
     go (variable t) e = n (sym e)
     go (page c k ss) e = m (sym e)
 
--- a page, where x is the first header, k and i are the number and the size of the items of its class
-module _ {w : ℕ} {b m : List ℕ} {p s n : ℕ} (room : UseRoom w b m p s n) (x k i : ℕ) (ex : x ≡ wordAt w b (p + w)) (ek : k ≡ shape w .perPage (x % (16 * w) / 4)) (ei : i ≡ itemSize (shape w) (x % (16 * w) / 4)) where
-  is-page : UseAt w b p s 3 → PageIs w b p s (x % (16 * w) / 4)
-  is-page u = rw ex (page-in (room .width) b p s u)
+-- a page whose first item is at q and has the header x, which says class c; k is what a page of that class needs
+module _ {w : ℕ} {b m : List ℕ} {p s n : ℕ} (room : UseRoom w b m p s n) (q x c k : ℕ) (eq : q ≡ firstItemAt (shape w) p) (ex : x ≡ wordAt w b q) (ec : c ≡ classIn (shape w) x) (ek : k ≡ pageNeed (shape w) c) where
+  is-page : UseAt w b p s pageKind → PageIs w b p s c
+  is-page u = rw (ec, ex, eq) (page-in (room .width) b p s u)
 
-  pub page-few : k * i ≤ 4360
-  page-few = rw (ek, ei) (page-items-bound (room .width) (x % (16 * w) / 4) (class-few (room .width) x))
+  few : c < shape w .classes
+  few = rw ec (class-few (room .width) x)
 
-  pub page-small : s < 2 * w + k * i → (m′ : List ℕ) → UseTold w b m p s 3 0 m′
+  pub page-small : s < k → (m′ : List ℕ) → UseTold w b m p s pageKind 0 m′
   page-small h m′ =
-      record { is-no = λ _ u. omega (arith, is-page u .least-size, rw (ek, ei) at h); is-yes = λ z. absurd (z refl); marking = λ z. absurd (z refl) }
+      record { is-no = λ _ u. omega (arith, is-page u .least-size, ek); is-yes = λ z. absurd (z refl); marking = λ z. absurd (z refl) }
 
-  pub page-large : 6 * w + k * i ≤ s → (m′ : List ℕ) → UseTold w b m p s 3 0 m′
+  pub page-large : k + leastFree (shape w) ≤ s → (m′ : List ℕ) → UseTold w b m p s pageKind 0 m′
   page-large h m′ =
-      record { is-no = λ _ u. omega (arith, is-page u .most-size, rw (ek, ei) at h); is-yes = λ z. absurd (z refl); marking = λ z. absurd (z refl) }
+      record { is-no = λ _ u. omega (arith, is-page u .most-size, ek); is-yes = λ z. absurd (z refl); marking = λ z. absurd (z refl) }
 
-  module _ (l : 2 * w + k * i ≤ s) where
-    pub page-room : ItemsRoom w b m (p + w) (p + w + k * i) (x % (16 * w) / 4) n
+  module _ (l : k ≤ s) (stop : ℕ) (es : stop ≡ farTagAt (shape w) p k) where
+    pub page-room : MarkRoom w b m q stop c n
     page-room =
         record {
           width = room .width;
-          class = class-few (room .width) x;
-          stops = rw (ek, ei) refl;
-          low = omega (arith, room .low);
-          even = first-even (room .width) p (room .eight);
-          inside = omega (arith, room .inside);
-          short = room .short;
-          map = omega (arith, room .map);
+          class = few;
+          stops = omega (arith, eq, ek, es);
+          low = omega (arith, eq, room .low);
+          even = rw eq (first-even (room .width) p (room .eight));
+          inside = omega (arith, es, ek, room .inside);
+          map = omega (arith, es, ek, room .map);
           marking = marking-on (omega arith) (room .marking);
         }
 
-    pub page-told : s < 6 * w + k * i → (r : ℕ) (m′ : List ℕ) → ItemsTold w b m (p + w) (p + w + k * i) (x % (16 * w) / 4) r m′ → UseTold w b m p s 3 r m′
+    pub page-told : s < k + leastFree (shape w) → (r : ℕ) (m′ : List ℕ) → ItemsTold w b m q stop c r m′ → UseTold w b m p s pageKind r m′
     page-told h r m′ t =
         record {
-          is-no = λ z u. t .is-no z (is-page u .items);
-          is-yes = λ z. page-out (room .width) b p s (x % (16 * w) / 4) m m′ (class-few (room .width) x) (room .size-eight) (rw (ek, ei) at l) (rw (ek, ei) at h) (t .is-yes z);
-          marking = λ z. marking-on (omega arith) (t .marking z);
+          is-no = λ z u. t .is-no z (rw eq (is-page u .items));
+          is-yes = λ z. page-out (room .width) b p s c m m′ few (room .size-eight) (omega arith) (omega arith) (rw eq at (t .is-yes z));
+          marking = λ z. marking-on (omega (arith, es, ek)) (t .marking z);
         }
 
--- a block in use with flag f
-module _ {w : ℕ} {b m : List ℕ} {p s f n : ℕ} (room : UseRoom w b m p s n) where
-  pub used-small : f ≡ 2 → s < leastVariable (shape w) → (m′ : List ℕ) → UseTold w b m p s f 0 m′
+-- a block in use
+module _ {w : ℕ} {b m : List ℕ} {p s kind n : ℕ} (room : UseRoom w b m p s n) where
+  pub used-small : kind ≡ variableKind → s < leastVariable (shape w) → (m′ : List ℕ) → UseTold w b m p s kind 0 m′
   used-small e h m′ = rw e (record { is-no = λ _ u. omega (arith, variable-in b p s u); is-yes = λ z. absurd (z refl); marking = λ z. absurd (z refl) })
 
-  pub used-variable : f ≡ 2 → leastVariable (shape w) ≤ s → UseTold w b m p s f n m
+  pub used-variable : kind ≡ variableKind → leastVariable (shape w) ≤ s → UseTold w b m p s kind n m
   used-variable e h = rw e (record { is-no = λ z. absurd (marked-pos (room .marking .marked) z); is-yes = λ _. variable-out (room .width) b p s m (room .size-eight) h; marking = λ _. marking-on (omega arith) (room .marking) })
 
-  pub used-other : (f ≡ 2 → ⊥) → (f ≡ 3 → ⊥) → (m′ : List ℕ) → UseTold w b m p s f 0 m′
-  used-other y z m′ = record { is-no = λ _ u. other-in b p s f y z u; is-yes = λ z. absurd (z refl); marking = λ z. absurd (z refl) }
+  pub used-other : (kind ≡ variableKind → ⊥) → (kind ≡ pageKind → ⊥) → (m′ : List ℕ) → UseTold w b m p s kind 0 m′
+  used-other y z m′ = record { is-no = λ _ u. other-in b p s kind y z u; is-yes = λ z. absurd (z refl); marking = λ z. absurd (z refl) }

@@ -1,34 +1,46 @@
 -- Laws of a walk over the blocks: what the tests at a tag tell of a run, and a run made longer by the block before it.
 use Prim.Native.Nat.{ℕ, _+_, _-_, _*_, _%_, _≤_, _<_}
 use mathlib.Core.Path.{_≡_, refl, sym, _∙_}
+use mathlib.Core.Bool.{Bool, true, false}
 use mathlib.Core.List.{List, [], _∷_}
 use native.Mathlib.Omega.{arith}
 use lib.ListN.{length}
 use Rattle.words.specs.Width.{Width}
 use Rattle.words.specs.Word.{wordAt}
-use Rattle.model.specs.Shape.{shape, start}
+use Rattle.model.specs.Shape.{shape, start, leastFree}
+use Rattle.model.specs.Parts.{freeKind, sizeIn, kindIn, tagOf, firstFreeAt, farTagAt, nextAt, previousAt}
 use Rattle.model.specs.Layout.{Use, variable, page, Block, free, used, useSize, sizeOf, ends, firstFree}
 use Rattle.model.specs.Sound.{Allowed, AllowedUse, AllAllowed, Apart}
+use Rattle.model.specs.inner.Walks.{flag}
 use Rattle.model.proofs.blocks.Blocks.{le-ends}
 use Rattle.model.proofs.Sizes.{start-eight}
 use Rattle.model.proofs.walks.Standing.{sizes}
-use Rattle.sound.specs.Runs.{flagOf, UseAt, Reads, Run, freeIn, freeItems}
-use Rattle.sound.specs.Maps.{Clear}
-use Rattle.sound.specs.Parts.{Sizes, Marking, UseMarked, UseTold, Walk, BlocksTold}
+use Rattle.sound.specs.Onward.{kindOf, UseAt, Reads, Onward, freeIn, freeItems}
+use Rattle.sound.specs.Maps.{NoMarks, mapEnd}
+use Rattle.sound.specs.Told.{Sizes, Marking, UseMarked, UseTold, BlocksMarked, BlocksTold}
 use Rattle.sound.proofs.MapLaws.{adds-none, adds-append, marked-none, marked-pos, marking-on}
 
-pub use-size : {w : ℕ} → Width w → (u : Use) → AllowedUse (shape w) u → (4 * w ≤ useSize (shape w) u) × (useSize (shape w) u % 8 ≡ 0)
+pub use-size : {w : ℕ} → Width w → (u : Use) → AllowedUse (shape w) u → (leastFree (shape w) ≤ useSize (shape w) u) × (useSize (shape w) u % 8 ≡ 0)
 unfolding Allowed sizeOf
 use-size wd u a = sizes wd (used u) a
 
-pub use-flag : (u : Use) → (2 ≤ flagOf u) × (flagOf u ≤ 3)
-unfolding flagOf
-use-flag (variable s) = omega arith
-use-flag (page c k ss) = omega arith
+-- what touches, as a number
+flag-most : (t : Bool) → flag t ≤ 1
+flag-most true = omega arith
+flag-most false = omega arith
 
-module _ {w : ℕ} (wd : Width w) {b : List ℕ} {end p prev d link : ℕ} where
+flag-none : (t : Bool) → flag t + 1 ≤ 1 → t ≡ false
+flag-none true h = absurd (omega arith)
+flag-none false h = refl
+
+pub use-kind : (u : Use) → (2 ≤ kindOf u) × (kindOf u ≤ 3)
+unfolding kindOf
+use-kind (variable s) = omega arith
+use-kind (page c k ss) = omega arith
+
+module _ {w : ℕ} (wd : Width w) {b : List ℕ} {end p prev : ℕ} {touching : Bool} {link : ℕ} where
   -- at the end
-  pub stop-in : p ≡ end → Run w b end p prev d link → link ≡ 0
+  pub stop-in : p ≡ end → Onward w b end p prev touching link → link ≡ 0
   unfolding firstFree ends AllAllowed Allowed sizeOf
   stop-in e r = go (r .rest) (r .fills) (r .allowed) (r .links)
     where
@@ -37,24 +49,24 @@ module _ {w : ℕ} (wd : Width w) {b : List ℕ} {end p prev d link : ℕ} where
       go (free s ∷ bs) f a l = absurd (omega (arith, le-ends (shape w) (p + s) bs, a .0 .0))
       go (used u ∷ bs) f a l = absurd (omega (arith, le-ends (shape w) (p + useSize (shape w) u) bs, use-size wd u (a .0)))
 
-  pub stop-out : (m : List ℕ) → p ≡ end → link ≡ 0 → Walk w b end p prev d link m m
+  pub stop-out : (m : List ℕ) → p ≡ end → link ≡ 0 → BlocksMarked w b end p prev touching link m m
   unfolding Reads ends AllAllowed Apart firstFree freeItems
-  stop-out m e l = record { run = record { rest = []; reads = tt; fills = e; allowed = tt; apart = tt; links = sym l }; adds = adds-none wd m }
+  stop-out m e l = record { onward = record { rest = []; reads = tt; fills = e; allowed = tt; apart = tt; links = sym l }; adds = adds-none wd m }
 
 -- what the tests at p find, where t is the tag there and s the size that it says
-pub record Passed (w : ℕ) (b : List ℕ) (end p prev d link t s : ℕ) : Type 0 where
-  pub big : 4 * w ≤ s
+pub record Passed (w : ℕ) (b : List ℕ) (end p prev : ℕ) (touching : Bool) (link t s : ℕ) : Type 0 where
+  pub big : leastFree (shape w) ≤ s
   pub inside : p + s ≤ end
-  pub tag : wordAt w b (p + s - w) ≡ t
-  pub when-free : t % 8 ≡ 0 → (d ≡ 0) × (link ≡ p) × (wordAt w b (p + s - 2 * w) ≡ prev) × Run w b end (p + s) p 1 (wordAt w b (p + w))
-  pub when-used : (t % 8 ≡ 0 → ⊥) → UseAt w b p s (t % 8) × Run w b end (p + s) prev 0 link
+  pub tag : wordAt w b (farTagAt (shape w) p s) ≡ t
+  pub when-free : kindIn t ≡ freeKind → (touching ≡ false) × (link ≡ p) × (wordAt w b (previousAt (shape w) p s) ≡ prev) × Onward w b end (p + s) p true (wordAt w b (nextAt (shape w) p))
+  pub when-used : (kindIn t ≡ freeKind → ⊥) → UseAt w b p s (kindIn t) × Onward w b end (p + s) prev false link
 
-module _ {w : ℕ} (wd : Width w) {b : List ℕ} {end p prev d link : ℕ} (t s : ℕ) (et : t ≡ wordAt w b p) (es : s ≡ t - t % 8) where
-  pub passed : p < end → Run w b end p prev d link → Passed w b end p prev d link t s
+module _ {w : ℕ} (wd : Width w) {b : List ℕ} {end p prev : ℕ} {touching : Bool} {link : ℕ} (t s : ℕ) (et : t ≡ wordAt w b p) (es : s ≡ sizeIn t) where
+  pub passed : p < end → Onward w b end p prev touching link → Passed w b end p prev touching link t s
   unfolding firstFree ends AllAllowed Allowed sizeOf Reads Apart
   passed q r = go (r .rest) (r .reads) (r .fills) (r .allowed) (r .apart) (r .links)
     where
-      go : (bs : List Block) → Reads w b p prev bs → ends (shape w) p bs ≡ end → AllAllowed (shape w) bs → Apart d bs → firstFree (shape w) p bs 0 ≡ link → Passed w b end p prev d link t s
+      go : (bs : List Block) → Reads w b p prev bs → ends (shape w) p bs ≡ end → AllAllowed (shape w) bs → Apart (flag touching) bs → firstFree (shape w) p bs 0 ≡ link → Passed w b end p prev touching link t s
       go [] h f a n l = absurd (omega arith)
       go (free x ∷ bs) h f a n l =
           let e : s ≡ x = omega (arith, h .0 .0, a .0 .1) in
@@ -62,70 +74,69 @@ module _ {w : ℕ} (wd : Width w) {b : List ℕ} {end p prev d link : ℕ} (t s 
             big = a .0 .0;
             inside = omega (arith, le-ends (shape w) (p + x) bs);
             tag = h .0 .3 ∙ sym (et ∙ h .0 .0);
-            when-free = λ _. (omega (arith, n .0), sym l, h .0 .2, record { rest = bs; reads = h .1; fills = f; allowed = a .1; apart = n .1; links = sym (h .0 .1) });
+            when-free = λ _. (flag-none touching (n .0), sym l, h .0 .2, record { rest = bs; reads = h .1; fills = f; allowed = a .1; apart = n .1; links = sym (h .0 .1) });
             when-used = λ z. absurd (z (omega (arith, h .0 .0, a .0 .1)));
           })
       go (used u ∷ bs) h f a n l =
           let z = use-size wd u (a .0) in
-          let y = use-flag u in
-          let walk : t ≡ useSize (shape w) u + flagOf u = et ∙ h .0 .0 in
+          let y = use-kind u in
+          let walk : t ≡ tagOf (useSize (shape w) u) (kindOf u) = et ∙ h .0 .0 in
           let e : s ≡ useSize (shape w) u = omega (arith, z, y) in
-          let k : t % 8 ≡ flagOf u = omega (arith, z, y) in
+          let k : kindIn t ≡ kindOf u = omega (arith, z, y) in
           rw e (record {
             big = use-size wd u (a .0) .0;
             inside = omega (arith, le-ends (shape w) (p + useSize (shape w) u) bs);
             tag = h .0 .1 ∙ sym walk;
             when-free = λ z. absurd (omega (arith, y));
-            when-used = λ _. (record { use-is = u; allowed = a .0; size = refl; flag = sym k; headers = h .0 .2 }, record { rest = bs; reads = h .1; fills = f; allowed = a .1; apart = n .1; links = l });
+            when-used = λ _. (record { use-is = u; allowed = a .0; size = refl; kind-is = sym k; headers = h .0 .2 }, record { rest = bs; reads = h .1; fills = f; allowed = a .1; apart = n .1; links = l });
           })
 
-  pub free-back : {m m′ : List ℕ} → t % 8 ≡ 0 → 4 * w ≤ s → wordAt w b (p + s - w) ≡ t → d ≡ 0 → link ≡ p → wordAt w b (p + s - 2 * w) ≡ prev → Walk w b end (p + s) p 1 (wordAt w b (p + w)) m m′ → Walk w b end p prev d link m m′
+  pub free-back : {m m′ : List ℕ} → kindIn t ≡ freeKind → leastFree (shape w) ≤ s → wordAt w b (farTagAt (shape w) p s) ≡ t → touching ≡ false → link ≡ p → wordAt w b (previousAt (shape w) p s) ≡ prev → BlocksMarked w b end (p + s) p true (wordAt w b (nextAt (shape w) p)) m m′ → BlocksMarked w b end p prev touching link m m′
   unfolding firstFree ends AllAllowed Allowed sizeOf Reads Apart freeItems
   free-back a big tag alone linked back walk =
-      let r = walk .run in
+      let r = walk .onward in
       record {
-        run = record {
+        onward = record {
           rest = free s ∷ r .rest;
           reads = ((omega arith, sym (r .links), back, tag ∙ omega arith), r .reads);
           fills = r .fills;
           allowed = ((big, omega arith), r .allowed);
-          apart = (omega arith, r .apart);
+          apart = (rw alone (omega arith), r .apart);
           links = sym linked;
         };
         adds = walk .adds;
       }
 
-  pub used-back : {m m₁ m′ : List ℕ} → d ≤ 1 → wordAt w b (p + s - w) ≡ t → UseMarked w b p s (t % 8) m m₁ → Walk w b end (p + s) prev 0 link m₁ m′ → Walk w b end p prev d link m m′
+  pub used-back : {m m₁ m′ : List ℕ} → wordAt w b (farTagAt (shape w) p s) ≡ t → UseMarked w b p s (kindIn t) m m₁ → BlocksMarked w b end (p + s) prev false link m₁ m′ → BlocksMarked w b end p prev touching link m m′
   unfolding firstFree ends AllAllowed Allowed sizeOf Reads Apart freeItems
-  used-back h tag u walk =
-      let r = walk .run in
+  used-back tag u walk =
+      let r = walk .onward in
       let a = u .use-at in
       record {
-        run = record {
+        onward = record {
           rest = used (a .use-is) ∷ r .rest;
-          reads = rw (a .size, a .flag) ((omega arith, tag ∙ omega arith, a .headers), r .reads);
+          reads = rw (a .size, a .kind-is) ((omega arith, tag ∙ omega arith, a .headers), r .reads);
           fills = rw (a .size) (r .fills);
           allowed = (a .allowed, r .allowed);
-          apart = (omega arith, r .apart);
+          apart = (omega (arith, flag-most touching), r .apart);
           links = rw (a .size) (r .links);
         };
         adds = rw (a .size) (adds-append wd (freeIn w p (a .use-is)) (freeItems w (p + s) (r .rest)) (u .adds) (walk .adds));
       }
 
 -- the walk stands at p: what is ahead, what it makes of the whole, and the marks so far
-pub record BlocksInv (w : ℕ) (b : List ℕ) (end : ℕ) (m₀ m : List ℕ) (n p prev d link : ℕ) : Type 0 where
+pub record BlocksInv (w : ℕ) (b : List ℕ) (end : ℕ) (m₀ m : List ℕ) (n p prev : ℕ) (touching : Bool) (link : ℕ) : Type 0 where
   pub width : Width w
-  pub ahead : Run w b end (start (shape w)) 0 0 (wordAt w b (8 + 2 * w)) → Run w b end p prev d link
-  pub back : (m′ : List ℕ) → Walk w b end p prev d link m m′ → Walk w b end (start (shape w)) 0 0 (wordAt w b (8 + 2 * w)) m₀ m′
+  pub ahead : Onward w b end (start (shape w)) 0 false (wordAt w b (firstFreeAt (shape w))) → Onward w b end p prev touching link
+  pub back : (m′ : List ℕ) → BlocksMarked w b end p prev touching link m m′ → BlocksMarked w b end (start (shape w)) 0 false (wordAt w b (firstFreeAt (shape w))) m₀ m′
   pub low : start (shape w) ≤ p
   pub inside : p ≤ end
   pub eight : p % 8 ≡ 0
-  pub flag : d ≤ 1
   pub marking : Marking w m n p
-  pub map : end ≤ w * (64 * length m)
+  pub map : end ≤ mapEnd w (length m)
   pub size : length m ≡ length m₀
 
-pub blocks-start : {w : ℕ} {b m : List ℕ} {end : ℕ} (link p : ℕ) → link ≡ wordAt w b (8 + 2 * w) → Sizes w b m end → Clear w m 0 → p ≡ start (shape w) → BlocksInv w b end m m 1 p 0 0 link
+pub blocks-start : {w : ℕ} {b m : List ℕ} {end : ℕ} (link p : ℕ) → link ≡ wordAt w b (firstFreeAt (shape w)) → Sizes w b (length m) end → NoMarks w m 0 → p ≡ start (shape w) → BlocksInv w b end m m 1 p 0 false link
 blocks-start {w} link p e z k f =
     rw (e, f) (record {
       width = z .width;
@@ -134,13 +145,12 @@ blocks-start {w} link p e z k f =
       low = omega arith;
       inside = omega (arith, z .low);
       eight = start-eight (z .width);
-      flag = omega arith;
       marking = record { marked = marked-none k; clear = record { from = λ j h. k .from j (omega arith) }; few = omega arith };
       map = z .map;
       size = refl;
     })
 
-module _ {w : ℕ} {b : List ℕ} {end : ℕ} {m₀ m : List ℕ} {n p prev d link : ℕ} (i : BlocksInv w b end m₀ m n p prev d link) where
+module _ {w : ℕ} {b : List ℕ} {end : ℕ} {m₀ m : List ℕ} {n p prev : ℕ} {touching : Bool} {link : ℕ} (i : BlocksInv w b end m₀ m n p prev touching link) where
   -- at the end
   pub blocks-yes : end ≤ p → link ≡ 0 → BlocksTold w b end m₀ n m
   blocks-yes h e =
@@ -153,13 +163,13 @@ module _ {w : ℕ} {b : List ℕ} {end : ℕ} {m₀ m : List ℕ} {n p prev d li
   pub blocks-open : (m′ : List ℕ) → end ≤ p → (link ≡ 0 → ⊥) → BlocksTold w b end m₀ 0 m′
   blocks-open m′ h e = record { is-no = λ _ r. e (stop-in (i .width) (omega (arith, i .inside)) (i .ahead r)); is-yes = λ z. absurd (z refl); marked = λ z. absurd (z refl) }
 
-  module _ (h : p < end) (t s : ℕ) (et : t ≡ wordAt w b p) (es : s ≡ t - t % 8) where
+  module _ (h : p < end) (t s : ℕ) (et : t ≡ wordAt w b p) (es : s ≡ sizeIn t) where
     -- a test that failed
-    pub blocks-no : (m′ : List ℕ) → (Passed w b end p prev d link t s → ⊥) → BlocksTold w b end m₀ 0 m′
+    pub blocks-no : (m′ : List ℕ) → (Passed w b end p prev touching link t s → ⊥) → BlocksTold w b end m₀ 0 m′
     blocks-no m′ f = record { is-no = λ _ r. f (passed (i .width) t s et es h (i .ahead r)); is-yes = λ z. absurd (z refl); marked = λ z. absurd (z refl) }
 
-    module _ (big : 4 * w ≤ s) (within : p + s ≤ end) (tag : wordAt w b (p + s - w) ≡ t) where
-      pub blocks-free : t % 8 ≡ 0 → d ≡ 0 → link ≡ p → wordAt w b (p + s - 2 * w) ≡ prev → (x : ℕ) → x ≡ wordAt w b (p + w) → BlocksInv w b end m₀ m n (p + s) p 1 x
+    module _ (big : leastFree (shape w) ≤ s) (within : p + s ≤ end) (tag : wordAt w b (farTagAt (shape w) p s) ≡ t) where
+      pub blocks-free : kindIn t ≡ freeKind → touching ≡ false → link ≡ p → wordAt w b (previousAt (shape w) p s) ≡ prev → (x : ℕ) → x ≡ wordAt w b (nextAt (shape w) p) → BlocksInv w b end m₀ m n (p + s) p true x
       blocks-free a alone linked prior x ex =
           rw ex (record {
             width = i .width;
@@ -168,26 +178,24 @@ module _ {w : ℕ} {b : List ℕ} {end : ℕ} {m₀ m : List ℕ} {n p prev d li
             low = omega (arith, i .low);
             inside = within;
             eight = omega (arith, i .eight);
-            flag = omega arith;
-            marking = marking-on (omega arith) (i .marking);
+                  marking = marking-on (omega arith) (i .marking);
             map = i .map;
             size = i .size;
           })
 
-      pub blocks-used : (t % 8 ≡ 0 → ⊥) → (m₁ : List ℕ) (r : ℕ) → length m₁ ≡ length m → UseTold w b m p s (t % 8) r m₁ → (r ≡ 0 → ⊥) → BlocksInv w b end m₀ m₁ r (p + s) prev 0 link
+      pub blocks-used : (kindIn t ≡ freeKind → ⊥) → (m₁ : List ℕ) (r : ℕ) → length m₁ ≡ length m → UseTold w b m p s (kindIn t) r m₁ → (r ≡ 0 → ⊥) → BlocksInv w b end m₀ m₁ r (p + s) prev false link
       blocks-used a m₁ r el u z =
           record {
             width = i .width;
             ahead = λ k. passed (i .width) t s et es h (i .ahead k) .when-used a .1;
-            back = λ m′ walk. i .back m′ (used-back (i .width) t s et es (i .flag) tag (u .is-yes z) walk);
+            back = λ m′ walk. i .back m′ (used-back (i .width) t s et es tag (u .is-yes z) walk);
             low = omega (arith, i .low);
             inside = within;
             eight = omega (arith, i .eight);
-            flag = omega arith;
-            marking = u .marking z;
+                  marking = u .marking z;
             map = rw el (i .map);
             size = el ∙ i .size;
           }
 
-      pub blocks-wrong : (t % 8 ≡ 0 → ⊥) → (m₁ : List ℕ) (r : ℕ) → UseTold w b m p s (t % 8) r m₁ → r ≡ 0 → (m′ : List ℕ) → BlocksTold w b end m₀ 0 m′
+      pub blocks-wrong : (kindIn t ≡ freeKind → ⊥) → (m₁ : List ℕ) (r : ℕ) → UseTold w b m p s (kindIn t) r m₁ → r ≡ 0 → (m′ : List ℕ) → BlocksTold w b end m₀ 0 m′
       blocks-wrong a m₁ r u z m′ = blocks-no m′ (λ k. u .is-no z (k .when-used a .0))

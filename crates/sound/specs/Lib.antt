@@ -1,5 +1,5 @@
 pub mod Tells
-pub mod Runs
+pub mod Onward
 pub mod Maps
 pub mod Lists
-pub mod Parts
+pub mod Told

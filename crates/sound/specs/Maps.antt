@@ -1,15 +1,45 @@
--- The map of free items: bit j is the mark of the item whose header is at position w * j.
-use Prim.Native.Nat.{ℕ, suc, _+_, _-_, _*_, _≤_}
+-- The map of free items: it has a bit for each word of the heap, the mark of the item whose header stands there.
+use Prim.Native.Nat.{ℕ, suc, _+_, _*_, _/_, _≤_}
 use mathlib.Core.Path.{_≡_}
 use mathlib.Core.List.{List}
 use lib.ListN.{length}
 use Rattle.words.specs.Bits.{bitAt}
-use Rattle.model.specs.Shape.{shape, index}
+use Rattle.model.specs.Shape.{shape, index, offsetOf, itemAt}
 use Rattle.model.specs.Sound.{times}
+
+-- the bit of the item whose header is at position p, and the position that bit j stands for
+abbrev pub itemBit : ℕ → ℕ → ℕ
+itemBit w p = p / w
+
+abbrev pub atBit : ℕ → ℕ → ℕ
+atBit w j = w * j
+
+-- the same of the item with offset o: its bit; the offset that bit j stands for; and the bit of offset 0, which names no item
+abbrev pub offsetBit : ℕ → ℕ → ℕ
+offsetBit w o = itemBit w (itemAt (shape w) o)
+
+abbrev pub offsetAtBit : ℕ → ℕ → ℕ
+offsetAtBit w j = offsetOf (shape w) (atBit w j)
+
+abbrev pub indexBit : ℕ → ℕ
+indexBit w = itemBit w (index (shape w))
+
+-- where the words end that a map of n words of 64 bits has bits for; and the words of a small, a middle and a large map
+abbrev pub mapEnd : ℕ → ℕ → ℕ
+mapEnd w n = atBit w (64 * n)
+
+abbrev pub smallMap : ℕ
+smallMap = 32
+
+abbrev pub middleMap : ℕ
+middleMap = 256
+
+abbrev pub largeMap : ℕ
+largeMap = 2048
 
 -- m′ is m with a mark more for each item offset of l
 pub record Adds (w : ℕ) (m m′ l : List ℕ) : Type 0 where
-  pub at : (j : ℕ) → bitAt m′ j ≡ bitAt m j + times (w * j - index (shape w)) l
+  pub at : (j : ℕ) → bitAt m′ j ≡ bitAt m j + times (offsetAtBit w j) l
 
 -- n is one more than the number of marks
 pub record Marked (m : List ℕ) (n : ℕ) : Type 0 where
@@ -18,5 +48,5 @@ pub record Marked (m : List ℕ) (n : ℕ) : Type 0 where
   pub count : suc (length list) ≡ n
 
 -- there is no mark from position p on
-pub record Clear (w : ℕ) (m : List ℕ) (p : ℕ) : Type 0 where
-  pub from : (j : ℕ) → p ≤ w * j → bitAt m j ≡ 0
+pub record NoMarks (w : ℕ) (m : List ℕ) (p : ℕ) : Type 0 where
+  pub from : (j : ℕ) → p ≤ atBit w j → bitAt m j ≡ 0

@@ -1,27 +1,20 @@
-use Rattle.sound.proofs.Places.{place, inside, place-room, base-small, top-room, top-some, bit-small, low-flags}
-use borrow.Author.Needs.{needs}
+use Rattle.sound.proofs.Places.{at-inside, below-room, index-below}
 use Rattle.sound.proofs.Counting.{list-from, ListInv, list-none, list-head, list-start, list-done, list-more, list-out, list-over, list-clear, list-other, list-turn}
 use Rattle.sound.proofs.MapLaws.{bit-set, bit-clear}
+use Rattle.sound.specs.Maps.{itemBit, offsetBit, indexBit}
+use Prim.Native.Nat.{ℕ, _%_, _<_}
+use mathlib.Core.Path.{_≡_, sym, ap, _∙_}
 use native.Mathlib.Omega.{arith}
+use borrow.Author.Needs.{needs}
 use Rattle.sound.proofs.count_list.Statement.{statement}
 use Rattle.sound.proofs.count_list.Tie as tie
-use Rattle.sound.proofs.count_list.Reads as reads
-use Rattle.sound.proofs.count_list.Lts as lts
-use Rattle.model.proofs.head_at.Reads as head-at-reads
-use Rattle.words.proofs.bits.test.Reads as test-reads
-use Rattle.words.proofs.word.Reads as word-reads
 
+-- the head and the end are not in reach of the loop: it goes right for any that give its first bit and its top
 abbrev Inv-loop : tie.InvT-loop
-Inv-loop w h m end c before before-index head top n₀ k₀ n k = ListInv w h end c head m before n k
+Inv-loop w h m c before none top n₀ i₀ n i = (end o : ℕ) → top ≡ itemBit w end → o % w ≡ 0 → i₀ ≡ offsetBit w o → ListInv w h end c o m before n i
 
 abbrev μ-loop : tie.MeasureT-loop
-μ-loop w h m end c before before-index head top n₀ k₀ n k = n
-
-div-before-index : tie.Need-div-before-index Inv-loop μ-loop
-div-before-index c = search needs
-
-add-before-index : tie.Need-add-before-index Inv-loop μ-loop
-add-before-index c = omega (arith, base-small (c .before .before .pre .0 .width))
+μ-loop w h m c before none top n₀ i₀ n i = n
 
 head-at-requires : tie.Need-head-at-requires Inv-loop μ-loop
 head-at-requires c κs = search needs
@@ -30,79 +23,88 @@ word-requires : tie.Need-word-requires Inv-loop μ-loop
 word-requires c κs = omega arith
 
 returns : tie.Need-returns Inv-loop μ-loop
-returns c = list-from _ _ _ (c .before .word .ensures) (c .before .before .head-at .ensures .0) (list-none (c .before .before .before .before .before .pre .1) (c .if1 .taken))
+returns c = list-from _ _ _ (c .before .before .word .ensures) (c .before .before .before .head-at .ensures .0) (list-none (c .before .before .before .before .before .before .pre .1) (c .if1 .taken))
 
 rem-if2 : tie.Need-rem-if2 Inv-loop μ-loop
 rem-if2 c = search needs
 
 returns-2 : tie.Need-returns-2 Inv-loop μ-loop
-returns-2 c = list-from _ _ _ (c .before .before .word .ensures) (c .before .before .before .head-at .ensures .0) (list-head (c .before .before .before .before .before .before .pre .0 .width) (c .if2 .taken))
+returns-2 c = list-from _ _ _ (c .before .before .before .before .word .ensures) (c .before .before .before .before .before .head-at .ensures .0) (list-head (c .before .before .before .before .before .before .before .before .pre .0 .width) (c .if2 .taken))
 
-div-top : tie.Need-div-top Inv-loop μ-loop
-div-top c = search needs
+-- the bit of the end of a list
+none-is : (c : tie.After-item-bit Inv-loop μ-loop) → c .item-bit .result ≡ indexBit (c .before .before .before .before .before .before .before .before .before .before .args .w)
+none-is c = c .item-bit .ensures ∙ ap (λ (x : ℕ). itemBit (c .before .before .before .before .before .before .before .before .before .before .args .w) x) (c .before .index .ensures)
 
-sub-top : tie.Need-sub-top Inv-loop μ-loop
-sub-top c = top-room (c .before .before .before .before .before .before .pre .0 .width) _ (omega arith)
+index-requires : tie.Need-index-requires Inv-loop μ-loop
+index-requires c κs = search needs
 
-div-k : tie.Need-div-k Inv-loop μ-loop
-div-k c = search needs
+item-bit-requires : tie.Need-item-bit-requires Inv-loop μ-loop
+item-bit-requires c κs = search needs
+
+item-bit-requires-2 : tie.Need-item-bit-requires-2 Inv-loop μ-loop
+item-bit-requires-2 c κs = search needs
+
+offset-bit-requires : tie.Need-offset-bit-requires Inv-loop μ-loop
+offset-bit-requires c κs = search needs
 
 loop-holds : tie.Need-loop-holds Inv-loop μ-loop
-loop-holds c = list-start (c .before .before .before .before .before .before .pre .0 .width) (c .if2 .left) (c .before .before .before .before .before .before .pre .1)
+loop-holds c = λ end o et em ei. list-start (c .before .before .before .before .before .before .before .before .before .before .before .before .pre .0 .width) em (c .before .before .before .before .before .before .before .before .before .before .before .before .pre .1) ei
+
+inv : (c : tie.At-loop Inv-loop μ-loop) → ListInv (c .before .before .before .before .before .before .before .before .before .before .before .before .before .args .w) (c .before .before .before .before .before .before .before .before .before .before .before .before .before .args .h .now) (c .before .before .before .before .before .before .before .before .before .before .before .before .before .args .end .0) (c .before .before .before .before .before .before .before .before .before .before .before .before .before .args .c) (c .before .before .before .before .before .before .before .before .before .word .result) (c .before .before .before .before .before .before .before .before .before .before .before .before .before .args .m .now) (c .before .before .before .before .before .before .before .before .before .before .before .before .before .args .before) (c .loop .n) (c .loop .i)
+inv c = c .loop .inv _ _ (c .before .before .item-bit2 .ensures) (c .before .before .before .before .before .if2 .left) (c .before .offset-bit .ensures)
 
 returns-3 : tie.Need-returns-3 Inv-loop μ-loop
-returns-3 c = list-from _ _ _ (c .before .before .before .before .word .ensures) (c .before .before .before .before .before .head-at .ensures .0) (list-out (c .before .loop .inv) (top-some (c .before .before .before .before .before .before .before .before .pre .0 .width) _ _ (omega arith) (c .if3 .taken)) (c .if3 .taken))
+returns-3 c = list-from _ _ _ (c .before .before .before .before .before .before .before .before .before .before .word .ensures) (c .before .before .before .before .before .before .before .before .before .before .before .head-at .ensures .0) (list-out (inv (c .before)) (index-below (c .before .before .before .before .before .before .before .before .before .before .before .before .before .before .pre .0 .width) _ _ (omega (arith, c .before .before .before .before .before .before .before .before .before .before .before .before .before .before .pre .0 .low, c .before .before .before .before .before .before .before .before .before .before .before .before .before .before .pre .0 .width)) (rw (c .before .before .before .item-bit2 .ensures) at (c .if3 .taken))) (rw (c .before .before .before .item-bit2 .ensures) at (c .if3 .taken)))
 
-add-i : tie.Need-add-i Inv-loop μ-loop
-add-i c = omega (arith, bit-small (c .before .before .before .before .before .before .before .before .pre .0 .width) _ _ (c .if3 .left))
+-- the bit is below the end's
+below : (c : tie.Else3 Inv-loop μ-loop) → c .before .loop .i < itemBit (c .before .before .before .before .before .before .before .before .before .before .before .before .before .before .args .w) (c .before .before .before .before .before .before .before .before .before .before .before .before .before .before .args .end .0)
+below c = rw (c .before .before .before .item-bit2 .ensures) at (c .if3 .left)
 
 test-requires : tie.Need-test-requires Inv-loop μ-loop
-test-requires c κs = place-room (c .before .before .before .before .before .before .before .before .pre .0 .width) _ _ _ (inside (c .before .before .before .before .before .before .before .before .pre .0 .width) _ _ (c .if3 .left)) (c .before .before .before .before .before .before .before .before .pre .0 .map)
+test-requires c κs = below-room (c .before .before .before .before .before .before .before .before .before .before .before .before .before .before .pre .0 .width) _ _ _ (below c) (c .before .before .before .before .before .before .before .before .before .before .before .before .before .before .pre .0 .map)
 
 returns-4 : tie.Need-returns-4 Inv-loop μ-loop
-returns-4 c = list-from _ _ _ (c .before .before .before .before .before .before .before .word .ensures) (c .before .before .before .before .before .before .before .before .head-at .ensures .0) (list-clear (c .before .before .before .before .loop .inv) (c .if5 .taken) _ (c .before .before .test .ensures) (bit-clear _ _ (c .before .before .test .ensures) (λ e. omega arith)))
+returns-4 c = list-from _ _ _ (c .before .before .before .before .before .before .before .before .before .before .before .before .before .word .ensures) (c .before .before .before .before .before .before .before .before .before .before .before .before .before .before .head-at .ensures .0) (list-clear (inv (c .before .before .before .before)) (λ e. c .if5 .taken (e ∙ sym (none-is (c .before .before .before .before .before .before .before)))) _ (c .before .before .test .ensures) (bit-clear _ _ (c .before .before .test .ensures) (λ e. omega arith)))
 
 returns-5 : tie.Need-returns-5 Inv-loop μ-loop
-returns-5 c = list-from _ _ _ (c .before .before .before .before .before .before .before .word .ensures) (c .before .before .before .before .before .before .before .before .head-at .ensures .0) (list-done (c .before .before .before .before .loop .inv) (c .if5 .left))
+returns-5 c = list-from _ _ _ (c .before .before .before .before .before .before .before .before .before .before .before .before .before .word .ensures) (c .before .before .before .before .before .before .before .before .before .before .before .before .before .before .head-at .ensures .0) (list-done (inv (c .before .before .before .before)) (c .if5 .left ∙ none-is (c .before .before .before .before .before .before .before)))
 
-mul-word : tie.Need-mul-word Inv-loop μ-loop
-mul-word c = omega (arith, inside (c .before .before .before .before .before .before .before .before .before .before .pre .0 .width) _ _ (c .before .before .if3 .left), place (c .before .before .before .before .before .before .before .before .before .before .pre .0 .width) (c .before .before .before .loop .k))
+at-bit-requires : tie.Need-at-bit-requires Inv-loop μ-loop
+at-bit-requires c κs = omega (arith, at-inside (c .before .before .before .before .before .before .before .before .before .before .before .before .before .before .before .before .pre .0 .width) _ _ (below (c .before .before)), c .before .before .before .before .before .before .before .before .before .before .before .before .before .before .before .before .pre .0 .inside)
 
 word-requires-2 : tie.Need-word-requires-2 Inv-loop μ-loop
-word-requires-2 c κs = omega (arith, inside (c .before .before .before .before .before .before .before .before .before .before .pre .0 .width) _ _ (c .before .before .if3 .left), place (c .before .before .before .before .before .before .before .before .before .before .pre .0 .width) (c .before .before .before .loop .k))
+word-requires-2 c κs = (c .before .before .before .before .before .before .before .before .before .before .before .before .before .before .before .before .before .pre .0 .width, omega (arith, at-inside (c .before .before .before .before .before .before .before .before .before .before .before .before .before .before .before .before .before .pre .0 .width) _ _ (below (c .before .before .before)), c .before .before .before .before .before .before .before .before .before .before .before .before .before .before .before .before .before .pre .0 .inside, c .at-bit .ensures))
 
-mul-if6 : tie.Need-mul-if6 Inv-loop μ-loop
-mul-if6 c = omega arith
+-- the item is marked, so it is not the end
+marked : (c : tie.Else4 Inv-loop μ-loop) → c .before .before .before .loop .i ≡ indexBit (c .before .before .before .before .before .before .before .before .before .before .before .before .before .before .before .before .args .w) → ⊥
+marked c = list-more (inv (c .before .before .before)) (c .before .before .before .before .before .before .before .before .before .before .before .before .before .before .before .before .pre .3) (bit-set _ _ (c .before .test .ensures) (c .if4 .left))
 
-rem-if6 : tie.Need-rem-if6 Inv-loop μ-loop
-rem-if6 c = search needs
-
-mul-if6-2 : tie.Need-mul-if6-2 Inv-loop μ-loop
-mul-if6-2 c = search needs
-
-add-if6 : tie.Need-add-if6 Inv-loop μ-loop
-add-if6 c = omega arith
+free-mark-requires : tie.Need-free-mark-requires Inv-loop μ-loop
+free-mark-requires c κs = search needs
 
 returns-6 : tie.Need-returns-6 Inv-loop μ-loop
-returns-6 c = list-from _ _ _ (c .before .before .before .before .before .before .before .before .word .ensures) (c .before .before .before .before .before .before .before .before .before .head-at .ensures .0) (list-other (c .before .before .before .before .before .loop .inv) (list-more (c .before .before .before .before .before .loop .inv) (c .before .before .before .before .before .before .before .before .before .before .before .before .pre .3) (bit-set _ _ (c .before .before .before .test .ensures) (c .before .before .if4 .left))) _ (c .before .word2 .ensures) (λ e. c .if6 .taken (omega (arith, e, low-flags (c .before .before .before .before .before .before .before .before .before .before .before .before .pre .0 .width) (c .before .word2 .result)))))
+returns-6 c = list-from _ _ _ (c .before .before .before .before .before .before .before .before .before .before .before .before .before .before .before .before .before .word .ensures) (c .before .before .before .before .before .before .before .before .before .before .before .before .before .before .before .before .before .before .head-at .ensures .0) (list-other (inv (c .before .before .before .before .before .before .before .before)) (marked (c .before .before .before .before .before)) _ _ (c .before .before .before .before .at-bit .ensures) (c .before .before .before .word2 .ensures) (λ e. c .if6 .taken (c .before .before .class-and-flags .ensures ∙ e ∙ sym (c .before .free-mark .ensures))))
 
 sub-n : tie.Need-sub-n Inv-loop μ-loop
-sub-n c = omega (arith, c .before .before .before .before .before .loop .inv .some)
+sub-n c = omega (arith, inv (c .before .before .before .before .before .before .before .before) .some)
 
 returns-7 : tie.Need-returns-7 Inv-loop μ-loop
-returns-7 c = list-from _ _ _ (c .before .before .before .before .before .before .before .before .before .word .ensures) (c .before .before .before .before .before .before .before .before .before .before .head-at .ensures .0) (list-over (c .before .before .before .before .before .before .loop .inv) (list-more (c .before .before .before .before .before .before .loop .inv) (c .before .before .before .before .before .before .before .before .before .before .before .before .before .pre .3) (bit-set _ _ (c .before .before .before .before .test .ensures) (c .before .before .before .if4 .left))) (omega (arith, c .before .before .before .before .before .before .loop .inv .some)))
+returns-7 c = list-from _ _ _ (c .before .before .before .before .before .before .before .before .before .before .before .before .before .before .before .before .before .before .word .ensures) (c .before .before .before .before .before .before .before .before .before .before .before .before .before .before .before .before .before .before .before .head-at .ensures .0) (list-over (inv (c .before .before .before .before .before .before .before .before .before)) (marked (c .before .before .before .before .before .before)) (omega (arith, inv (c .before .before .before .before .before .before .before .before .before) .some)))
 
-mul-k : tie.Need-mul-k Inv-loop μ-loop
-mul-k c = search needs
+class-and-flags-requires : tie.Need-class-and-flags-requires Inv-loop μ-loop
+class-and-flags-requires c κs = c .before .before .before .before .before .before .before .before .before .before .before .before .before .before .before .before .before .before .pre .0 .width
 
-div-k-2 : tie.Need-div-k-2 Inv-loop μ-loop
-div-k-2 c = search needs
+next-in-requires : tie.Need-next-in-requires Inv-loop μ-loop
+next-in-requires c κs = c .before .before .before .before .before .before .before .before .before .before .before .before .before .before .before .before .before .before .before .before .before .before .pre .0 .width
+
+offset-bit-requires-2 : tie.Need-offset-bit-requires-2 Inv-loop μ-loop
+offset-bit-requires-2 c κs = c .before .before .before .before .before .before .before .before .before .before .before .before .before .before .before .before .before .before .before .before .before .before .before .pre .0 .width
 
 loop-less : tie.Need-loop-less Inv-loop μ-loop
-loop-less c = omega (arith, c .before .before .before .before .before .before .loop .inv .some)
+loop-less c = omega (arith, inv (c .before .before .before .before .before .before .before .before .before .before .before) .some)
 
 loop-again : tie.Need-loop-again Inv-loop μ-loop
-loop-again c = list-turn (c .before .before .before .before .before .before .loop .inv) (list-more (c .before .before .before .before .before .before .loop .inv) (c .before .before .before .before .before .before .before .before .before .before .before .before .before .pre .3) (bit-set _ _ (c .before .before .before .before .test .ensures) (c .before .before .before .if4 .left))) (c .before .before .before .before .before .if3 .left) (c .if7 .left) (bit-set _ _ (c .before .before .before .before .test .ensures) (c .before .before .before .if4 .left)) _ (c .before .before .word2 .ensures) (c .before .if6 .left)
+loop-again c = λ end o et em ei. list-turn (c .before .before .before .before .before .before .before .before .before .before .before .loop .inv end o et em ei) (marked (c .before .before .before .before .before .before .before .before)) _ _ (c .before .before .before .before .before .before .before .at-bit .ensures) (c .before .before .before .before .before .before .word2 .ensures) (rw et at (c .before .before .before .before .before .before .before .before .before .before .if3 .left)) (c .before .before .if7 .left) (bit-set _ _ (c .before .before .before .before .before .before .before .before .before .test .ensures) (c .before .before .before .before .before .before .before .before .if4 .left)) (sym (c .before .before .before .before .before .class-and-flags .ensures) ∙ c .before .before .before .if6 .left ∙ c .before .before .before .before .free-mark .ensures) _ (rw (c .before .next-in .ensures) at (c .offset-bit2 .ensures))
 
 pub count-list-spec : {M : Type 1} → statement M
 count-list-spec =
@@ -110,32 +112,28 @@ count-list-spec =
     (tie.spec
     Inv-loop
     μ-loop
-    div-before-index
-    add-before-index
     head-at-requires
     word-requires
     returns
     rem-if2
     returns-2
-    div-top
-    sub-top
-    div-k
+    index-requires
+    item-bit-requires
+    item-bit-requires-2
+    offset-bit-requires
     loop-holds
     returns-3
-    add-i
     test-requires
     returns-4
     returns-5
-    mul-word
+    at-bit-requires
     word-requires-2
-    mul-if6
-    rem-if6
-    mul-if6-2
-    add-if6
+    class-and-flags-requires
+    free-mark-requires
     returns-6
     sub-n
     returns-7
-    mul-k
-    div-k-2
+    next-in-requires
+    offset-bit-requires-2
     loop-less
     loop-again)

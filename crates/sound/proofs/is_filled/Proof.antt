@@ -1,14 +1,10 @@
 use Rattle.sound.proofs.MapLaws.{map-kept}
-use Rattle.sound.proofs.Agree.{base-clear, agree-filled, agree-listed}
+use Rattle.sound.proofs.Agree.{index-clear, agree-filled, agree-listed}
 use Rattle.sound.proofs.Tellings.{tells-no, tells-so}
 use native.Mathlib.Omega.{arith}
 use borrow.Author.Needs.{needs}
 use Rattle.sound.proofs.is_filled.Statement.{statement}
 use Rattle.sound.proofs.is_filled.Tie as tie
-use Rattle.sound.proofs.is_filled.Reads as reads
-use Rattle.sound.proofs.is_filled.Lts as lts
-use Rattle.sound.proofs.count_lists.Reads as count-lists-reads
-use Rattle.sound.proofs.mark_blocks.Reads as mark-blocks-reads
 
 mark-blocks-requires : tie.Need-mark-blocks-requires
 mark-blocks-requires c κs = search needs
@@ -17,10 +13,10 @@ same-length : tie.Need-same-length
 same-length c = search needs
 
 returns : tie.Need-returns
-returns c = tells-no _ (λ f. c .before .before .before .mark-blocks .ensures .is-no (c .if1 .taken) (f .run))
+returns c = tells-no _ (λ f. c .before .before .before .mark-blocks .ensures .is-no (c .if1 .taken) (f .onward))
 
 count-lists-requires : tie.Need-count-lists-requires
-count-lists-requires c κs = (record { width = c .before .before .before .before .before .before .before .before .pre .0 .width; low = c .before .before .before .before .before .before .before .before .pre .0 .low; inside = c .before .before .before .before .before .before .before .before .pre .0 .inside; eight = c .before .before .before .before .before .before .before .before .pre .0 .eight; short = c .before .before .before .before .before .before .before .before .pre .0 .short; map = map-kept _ _ _ _ (omega arith) (c .before .before .before .before .before .before .before .before .pre .0 .map) }, c .before .before .before .before .mark-blocks .ensures .marked (c .before .if1 .left), base-clear (c .before .before .before .before .before .before .before .before .pre .0 .width) _ _ _ _ (c .before .before .before .before .before .before .before .before .pre .1) (c .before .before .before .before .mark-blocks .ensures .is-yes (c .before .if1 .left)))
+count-lists-requires c κs = (record { width = c .before .before .before .before .before .before .before .before .pre .0 .width; low = c .before .before .before .before .before .before .before .before .pre .0 .low; inside = c .before .before .before .before .before .before .before .before .pre .0 .inside; eight = c .before .before .before .before .before .before .before .before .pre .0 .eight; map = map-kept _ _ _ _ (omega arith) (c .before .before .before .before .before .before .before .before .pre .0 .map) }, c .before .before .before .before .mark-blocks .ensures .marked (c .before .if1 .left), index-clear (c .before .before .before .before .before .before .before .before .pre .0 .width) _ _ _ _ (c .before .before .before .before .before .before .before .before .pre .1) (c .before .before .before .before .mark-blocks .ensures .is-yes (c .before .if1 .left)))
 
 same-length-2 : tie.Need-same-length-2
 same-length-2 c = search needs

@@ -1,20 +1,23 @@
 use Rattle.words.proofs.BitLaws.{zeros-clear}
+use Rattle.sound.specs.Maps.{largeMap}
 use native.Mathlib.Omega.{arith}
 use borrow.Author.Needs.{needs}
 use Rattle.sound.proofs.is_filled_large.Statement.{statement}
 use Rattle.sound.proofs.is_filled_large.Tie as tie
-use Rattle.sound.proofs.is_filled_large.Reads as reads
-use Rattle.sound.proofs.is_filled_large.Lts as lts
-use Rattle.sound.proofs.is_filled.Reads as is-filled-reads
 
 slice-aggregate-is-filled : tie.Need-slice-aggregate-is-filled
 slice-aggregate-is-filled c = search needs
 
 is-filled-requires : tie.Need-is-filled-requires
-is-filled-requires c κs = (record { width = omega arith; low = omega arith; inside = omega arith; eight = omega arith; short = omega arith; map = omega arith }, record { from = λ j _. zeros-clear 2048 j })
+is-filled-requires c κs = (record { width = omega arith; low = omega arith; inside = omega arith; eight = omega arith; map = omega arith }, record { from = λ j _. zeros-clear largeMap j })
 
 returns : tie.Need-returns
 returns c = search needs
 
 pub is-filled-large-spec : {M : Type 1} → statement M
-is-filled-large-spec = tie.close (tie.spec slice-aggregate-is-filled is-filled-requires returns)
+is-filled-large-spec =
+    tie.close
+    (tie.spec
+    slice-aggregate-is-filled
+    is-filled-requires
+    returns)
