@@ -178,7 +178,7 @@ module _ {w : ℕ} {b : List ℕ} {end : ℕ} {m₀ m : List ℕ} {n p prev : �
             low = omega (arith, i .low);
             inside = within;
             eight = omega (arith, i .eight);
-                  marking = marking-on (omega arith) (i .marking);
+            marking = marking-on (omega arith) (i .marking);
             map = i .map;
             size = i .size;
           })
@@ -192,7 +192,7 @@ module _ {w : ℕ} {b : List ℕ} {end : ℕ} {m₀ m : List ℕ} {n p prev : �
             low = omega (arith, i .low);
             inside = within;
             eight = omega (arith, i .eight);
-                  marking = u .marking z;
+            marking = u .marking z;
             map = rw el (i .map);
             size = el ∙ i .size;
           }

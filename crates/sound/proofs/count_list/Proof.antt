@@ -83,7 +83,7 @@ free-mark-requires : tie.Need-free-mark-requires Inv-loop μ-loop
 free-mark-requires c κs = search needs
 
 returns-6 : tie.Need-returns-6 Inv-loop μ-loop
-returns-6 c = list-from _ _ _ (c .before .before .before .before .before .before .before .before .before .before .before .before .before .before .before .before .before .word .ensures) (c .before .before .before .before .before .before .before .before .before .before .before .before .before .before .before .before .before .before .head-at .ensures .0) (list-other (inv (c .before .before .before .before .before .before .before .before)) (marked (c .before .before .before .before .before)) _ _ (c .before .before .before .before .at-bit .ensures) (c .before .before .before .word2 .ensures) (λ e. c .if6 .taken (c .before .before .class-and-flags .ensures ∙ e ∙ sym (c .before .free-mark .ensures))))
+returns-6 c = list-from _ _ _ (c .before .before .before .before .before .before .before .before .before .before .before .before .before .before .before .before .before .word .ensures) (c .before .before .before .before .before .before .before .before .before .before .before .before .before .before .before .before .before .before .head-at .ensures .0) (list-other (inv (c .before .before .before .before .before .before .before .before)) (marked (c .before .before .before .before .before)) _ _ (c .before .before .before .before .at-bit .ensures) (c .before .before .before .word2 .ensures) (λ e. omega (arith, e, c .if6 .taken, c .before .before .class-and-flags .ensures, c .before .free-mark .ensures)))
 
 sub-n : tie.Need-sub-n Inv-loop μ-loop
 sub-n c = omega (arith, inv (c .before .before .before .before .before .before .before .before) .some)
@@ -104,7 +104,7 @@ loop-less : tie.Need-loop-less Inv-loop μ-loop
 loop-less c = omega (arith, inv (c .before .before .before .before .before .before .before .before .before .before .before) .some)
 
 loop-again : tie.Need-loop-again Inv-loop μ-loop
-loop-again c = λ end o et em ei. list-turn (c .before .before .before .before .before .before .before .before .before .before .before .loop .inv end o et em ei) (marked (c .before .before .before .before .before .before .before .before)) _ _ (c .before .before .before .before .before .before .before .at-bit .ensures) (c .before .before .before .before .before .before .word2 .ensures) (rw et at (c .before .before .before .before .before .before .before .before .before .before .if3 .left)) (c .before .before .if7 .left) (bit-set _ _ (c .before .before .before .before .before .before .before .before .before .test .ensures) (c .before .before .before .before .before .before .before .before .if4 .left)) (sym (c .before .before .before .before .before .class-and-flags .ensures) ∙ c .before .before .before .if6 .left ∙ c .before .before .before .before .free-mark .ensures) _ (rw (c .before .next-in .ensures) at (c .offset-bit2 .ensures))
+loop-again c = λ end o et em ei. list-turn (c .before .before .before .before .before .before .before .before .before .before .before .loop .inv end o et em ei) (marked (c .before .before .before .before .before .before .before .before)) _ _ (c .before .before .before .before .before .before .before .at-bit .ensures) (c .before .before .before .before .before .before .word2 .ensures) (rw et at (c .before .before .before .before .before .before .before .before .before .before .if3 .left)) (c .before .before .if7 .left) (bit-set _ _ (c .before .before .before .before .before .before .before .before .before .test .ensures) (c .before .before .before .before .before .before .before .before .if4 .left)) (omega (arith, c .before .before .before .if6 .left, c .before .before .before .before .before .class-and-flags .ensures, c .before .before .before .before .free-mark .ensures)) _ (rw (c .before .next-in .ensures) at (c .offset-bit2 .ensures))
 
 pub count-list-spec : {M : Type 1} → statement M
 count-list-spec =
