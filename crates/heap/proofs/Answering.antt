@@ -14,7 +14,7 @@ use Rattle.model.specs.Refusals.{notLive}
 use Rattle.model.specs.Calls.{Told, Checked, found}
 use Rattle.reading.specs.Stepping.{toldKind, toldBlock}
 use Rattle.reading.specs.Holding.{Holds}
-use Rattle.reading.specs.declared.stepping.Block.{Block}
+use Rattle.reading.specs.declared.stepping.MetBlock.{MetBlock}
 use Rattle.heap.specs.declared.Refusal.{Refusal}
 use Rattle.heap.specs.declared.Verdict.{Verdict}
 use Rattle.heap.specs.declared.Verdict.the-variants.{Fine, Unfit}
@@ -38,7 +38,7 @@ module _ {A : Type 0} (b : List ℕ) (none : A) (rule : Layout → A) (v : Verdi
   tells-answer e r d = decides b (λ j. with j none) (λ L. with 0 (rule L)) v x e (with 0 r) (λ L h. ap (λ (y : A). with 0 y) (d L h))
 
 -- a walk that meets no block stays
-pub stays-there : (w : ℕ) (r : Block) → toldBlock w r ≡ ended wide w → record { position = r .position .0; size = r .size; kind = toldKind (r .kind); next = w } ≡ ended wide w
+pub stays-there : (w : ℕ) (r : MetBlock) → toldBlock w r ≡ ended wide w → record { position = r .position .0; size = r .size; kind = toldKind (r .kind); next = w } ≡ ended wide w
 stays-there w r e = ap (λ (s : reading.Step). record { position = s .position; size = s .size; kind = s .kind; next = w }) e
 
 -- what is live at an address
@@ -52,8 +52,9 @@ module _ (b : List ℕ) (a : ℕ) (v : Verdict) (x : Examined b v) where
       }
 
   module _ (e : v ≡ Fine) (n : ℕ) (h : Holds 8 b a n) where
-    pub held-none : n ≡ 0 → HeldTold b a (record { size = 0; refusal = notLive })
-    held-none z =
+    pub held-none : n ≡ 0 → (m : ℕ) → m ≡ notLive → HeldTold b a (record { size = 0; refusal = m })
+    held-none z m em =
+        rw em
         record {
           size = decides b (λ j. 0) (λ L. capacity wide (find wide a L)) v x e 0 (λ L k. sym z ∙ h .answer L k);
           refusal = decides b (λ j. j) (λ L. found wide (find wide a L) notLive 0) v x e notLive (λ L k. ap (λ (f : Found). found wide f notLive 0) (sym (h .none z L k)));

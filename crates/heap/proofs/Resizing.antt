@@ -20,8 +20,8 @@ as-told (to.To a) c = refl
 as-told to.NotLive c = refl
 as-told to.NoRoom c = refl
 
-pub resizes : (b : List ℕ) (a n : ℕ) (t : Resized) (r : Answer) (c : List ℕ) → 1 ≤ n → n ≤ 1048576 → Resizes 8 b a n t c → r ≡ resizedAs t → (L : Layout) → Here wide b L
+pub resizes : (b : List ℕ) (a n : ℕ) (t : Resized) (r : Answer) (c : List ℕ) → (1 ≤ n) × (n ≤ wide .most) → Resizes 8 b a n t c → r ≡ resizedAs t → (L : Layout) → Here wide b L
     → outcome r c ≡ sized wide n b (found wide (find wide a L) (refused b notLive) (resized wide b a (moved wide b a n L) (stays wide n (find wide a L) L)))
-resizes b a n t r c l m g e L h =
+resizes b a n t r c z g e L h =
     ap (λ (x : Answer). outcome x c) e ∙ as-told t c ∙ g .is L h
-    ∙ sym (good-size n b (found wide (find wide a L) (refused b notLive) (resized wide b a (moved wide b a n L) (stays wide n (find wide a L) L))) l m)
+    ∙ sym (good-size n b (found wide (find wide a L) (refused b notLive) (resized wide b a (moved wide b a n L) (stays wide n (find wide a L) L))) z)

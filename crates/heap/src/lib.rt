@@ -12,21 +12,25 @@ pub use crate::walking::Walk;
 use engine::allocate as taking;
 use engine::free as giving;
 use model::Address;
-use model::LONGEST;
-use model::SHORTEST;
+use model::longest;
 use model::magic;
+use model::shortest;
 use resizing::resize as sizing;
 use sound::is_sound;
 use words::word;
 ghost use mathlib.Core.Path.{_≡_};
 ghost use Prim.Native.Nat.{_≤_};
 ghost use Rattle.model.specs.Shape.{wide};
+ghost use Rattle.model.specs.Refusals.{alreadyOpened};
 ghost use Rattle.model.specs.Calls.{Lent, Initialises, Checks, Allocates, Frees, Resizes};
 ghost use Rattle.sound.specs.Tells.{Tells};
 ghost use Rattle.heap.specs.Answers.{Examined, answerOf, resizedAs, outcome, refusalNumber};
 
 // The bytes of a word of document 01's heap.
 const WORD: usize = 8;
+
+// The bytes of the magic number, which begins a heap of any width.
+const MAGIC_BYTES: usize = 8;
 
 // Why a call says no, in the order of document 01's numbers, 1 to 7.
 pub enum Refusal {
@@ -53,7 +57,7 @@ pub enum Verdict {
 
 // Document 01's number of a refusal.
 pub fn refusal_number(k: Refusal) -> u64
-    ensures { λ r. ⌜ (r ≡ refusalNumber k) × (r ≤ 7) ⌝ }
+    ensures { λ r. ⌜ (r ≡ refusalNumber k) × (r ≤ alreadyOpened) ⌝ }
 {
     match k {
         Refusal::BadLength => 1,
@@ -70,10 +74,10 @@ pub fn refusal_number(k: Refusal) -> u64
 fn is_lent(h: &[u8]) -> bool
     ensures { λ r. ⌜ Tells r (Lent wide (now (h .entry))) ⌝ }
 {
-    if h.len() < SHORTEST {
+    if h.len() < shortest(WORD) {
         return false;
     }
-    h.len() <= LONGEST
+    h.len() <= longest(WORD)
 }
 
 // Opens a heap in a buffer that holds none yet.
@@ -83,7 +87,7 @@ pub fn initialise(h: &mut [u8]) -> Answer
     if !is_lent(h) {
         return Answer::Refused(Refusal::BadLength);
     }
-    if word(8, h, 0) == magic(WORD) {
+    if word(MAGIC_BYTES, h, 0) == magic(WORD) {
         return Answer::Refused(Refusal::AlreadyOpened);
     }
     fresh::lay(WORD, h);
@@ -97,7 +101,7 @@ fn examine(h: &[u8]) -> Verdict
     if !is_lent(h) {
         return Verdict::Unfit(Refusal::BadLength);
     }
-    if word(8, h, 0) != magic(WORD) {
+    if word(MAGIC_BYTES, h, 0) != magic(WORD) {
         return Verdict::Unfit(Refusal::NotOpened);
     }
     if !is_sound(WORD, h) {
@@ -115,6 +119,16 @@ pub fn check(h: &[u8]) -> Answer
         Verdict::Unfit(k) => Answer::Refused(k),
         Verdict::Fine => Answer::Granted(Address(0)),
     }
+}
+
+// Whether n bytes can be asked for.
+fn is_size(n: usize) -> bool
+    ensures { λ r. ⌜ Tells r ((1 ≤ n) × (n ≤ wide .most)) ⌝ }
+{
+    if n == 0 {
+        return false;
+    }
+    n <= longest(WORD)
 }
 
 // What an allocation found, as an answer.
@@ -135,10 +149,7 @@ pub fn allocate(h: &mut [u8], n: usize) -> Answer
     if let Verdict::Unfit(k) = v {
         return Answer::Refused(k);
     }
-    if n == 0 {
-        return Answer::Refused(Refusal::BadSize);
-    }
-    if LONGEST < n {
+    if !is_size(n) {
         return Answer::Refused(Refusal::BadSize);
     }
     let t = taking::allocate(WORD, h, n);
@@ -181,10 +192,7 @@ pub fn resize(h: &mut [u8], a: Address, n: usize) -> Answer
     if let Verdict::Unfit(k) = v {
         return Answer::Refused(k);
     }
-    if n == 0 {
-        return Answer::Refused(Refusal::BadSize);
-    }
-    if LONGEST < n {
+    if !is_size(n) {
         return Answer::Refused(Refusal::BadSize);
     }
     let t = sizing::resize(WORD, h, a, n);

@@ -1,4 +1,5 @@
 // The payload at a live address, as that very part of the lent heap.
+use crate::Refusal;
 use crate::Verdict;
 use crate::WORD;
 use crate::examine;
@@ -28,9 +29,10 @@ fn held_at(h: &[u8], a: Address) -> Held
         Verdict::Fine => {
             let n = capacity(WORD, h, a);
             if n == 0 {
+                let k = refusal_number(Refusal::NotLive);
                 return Held {
                     size: 0,
-                    refusal: 5,
+                    refusal: k,
                 };
             }
             Held {

@@ -5,11 +5,11 @@ use crate::examine;
 use crate::refusal_number;
 use model::Position;
 use model::start;
-use reading::stepping::Block;
+use reading::stepping::MetBlock;
 use reading::stepping::meet;
 use reading::stepping::no_block;
 ghost use mathlib.Core.Path.{_≡_};
-ghost use Rattle.model.specs.Shape.{wide};
+ghost use Rattle.model.specs.Shape.{wide, start};
 ghost use Rattle.model.specs.Calls.{Steps};
 ghost use Rattle.heap.specs.Walking.{toldStep};
 
@@ -20,7 +20,7 @@ pub struct Walk {
 
 // A step's answer, the walk behind it, and the refusal number.
 pub struct Step {
-    pub block: Block,
+    pub block: MetBlock,
     pub walk: Walk,
     pub refusal: u64,
 }
@@ -28,19 +28,16 @@ pub struct Step {
 impl Walk {
     // A walk at the data area's start.
     pub fn start() -> Walk
-        ensures { λ r. ⌜ r .at .0 ≡ 312 ⌝ }
+        ensures { λ r. ⌜ r .at .0 ≡ start wide ⌝ }
     {
-        Walk {
-            at: Position(start(WORD)),
-        }
+        Walk { at: start(WORD) }
     }
 
     // The block at which the walk stands, and the walk behind it; where none begins, or where refused, the end, and the walk stays.
     pub fn step(self, h: &[u8]) -> Step
         ensures { λ r. ⌜ Steps wide (now (h .entry)) (self .at .0) (toldStep r) ⌝ }
     {
-        let here = self.at;
-        let at = here.0;
+        let at = self.at;
         let v = examine(h);
         match v {
             Verdict::Unfit(k) => {
@@ -48,16 +45,16 @@ impl Walk {
                 let b = no_block();
                 Step {
                     block: b,
-                    walk: Walk { at: Position(at) },
+                    walk: Walk { at: at },
                     refusal: n,
                 }
             }
             Verdict::Fine => {
-                let b = meet(WORD, h, here);
-                let next = at + b.size;
+                let b = meet(WORD, h, at);
+                let next = Position(at.0 + b.size);
                 Step {
                     block: b,
-                    walk: Walk { at: Position(next) },
+                    walk: Walk { at: next },
                     refusal: 0,
                 }
             }

@@ -1,5 +1,6 @@
-use native.Mathlib.Omega.{arith}
-use Rattle.heap.proofs.Allocating.{too-small, too-large}
+use borrow.Author.Tests.{not-true, not-false}
+use Rattle.sound.proofs.Tellings.{clash}
+use Rattle.heap.proofs.Allocating.{bad-size}
 use Rattle.heap.proofs.Resizing.{resizes}
 use Rattle.heap.proofs.Examining.{refuses, decides, ready}
 use borrow.Author.Needs.{needs}
@@ -8,6 +9,7 @@ use Rattle.heap.proofs.resize.Tie as tie
 use Rattle.heap.proofs.resize.Reads as reads
 use Rattle.heap.proofs.resize.Lts as lts
 use Rattle.heap.proofs.examine.Reads as examine-reads
+use Rattle.heap.proofs.is_size.Reads as is-size-reads
 use Rattle.heap.proofs.resized_or_not.Reads as resized-or-not-reads
 use Rattle.resizing.proofs.resize.resize.Reads as resize-reads
 
@@ -26,29 +28,26 @@ returns c = refuses _ _ _ _ _ (c .before .before .before .examine .ensures) (c .
 enum-told : tie.Need-enum-told
 enum-told c = search needs
 
+is-size-requires : tie.Need-is-size-requires
+is-size-requires c κs = search needs
+
 same-length-2 : tie.Need-same-length-2
 same-length-2 c = search needs
 
 returns-2 : tie.Need-returns-2
-returns-2 c = decides _ _ _ _ (c .before .before .before .examine .ensures) (c .before .enum-told .given .1) _ (λ L h. too-small _ _ _ (c .if1 .taken))
+returns-2 c = decides _ _ _ _ (c .before .before .before .before .examine .ensures) (c .before .before .enum-told .given .1) _ (λ L h. bad-size (c .before .before .before .before .before .before .before .args .n) _ _ (λ g. clash _ (not-true _ (c .if1 .taken)) (c .before .is-size .ensures .is-yes g)))
+
+resize-requires : tie.Need-resize-requires
+resize-requires c κs = let g = c .before .before .is-size .ensures .yes-is (not-false _ (c .before .if1 .left)) in (ready _ _ (c .before .before .before .before .before .examine .ensures) (c .before .before .before .enum-told .given .1), record { some-byte = g .0; most = g .1 })
+
+resized-or-not-requires : tie.Need-resized-or-not-requires
+resized-or-not-requires c κs = search needs
 
 same-length-3 : tie.Need-same-length-3
 same-length-3 c = search needs
 
 returns-3 : tie.Need-returns-3
-returns-3 c = decides _ _ _ _ (c .before .before .before .before .examine .ensures) (c .before .before .enum-told .given .1) _ (λ L h. too-large (c .before .before .before .before .before .before .before .args .n) _ _ (omega arith))
-
-resize-requires : tie.Need-resize-requires
-resize-requires c κs = (ready _ _ (c .before .before .before .before .before .examine .ensures) (c .before .before .before .enum-told .given .1), record { some-byte = omega arith; most = omega arith })
-
-resized-or-not-requires : tie.Need-resized-or-not-requires
-resized-or-not-requires c κs = search needs
-
-same-length-4 : tie.Need-same-length-4
-same-length-4 c = search needs
-
-returns-4 : tie.Need-returns-4
-returns-4 c = decides _ _ _ _ (c .before .before .before .before .before .before .before .before .before .examine .ensures) (c .before .before .before .before .before .before .before .enum-told .given .1) _ (resizes _ _ _ _ _ _ (omega arith) (omega arith) (c .before .before .before .resize .ensures) (c .resized-or-not .ensures))
+returns-3 c = decides _ _ _ _ (c .before .before .before .before .before .before .before .before .before .examine .ensures) (c .before .before .before .before .before .before .before .enum-told .given .1) _ (resizes _ _ _ _ _ _ (c .before .before .before .before .before .before .is-size .ensures .yes-is (not-false _ (c .before .before .before .before .before .if1 .left))) (c .before .before .before .resize .ensures) (c .resized-or-not .ensures))
 
 pub resize-spec : {M : Type 1} → statement M
 resize-spec =
@@ -59,11 +58,10 @@ resize-spec =
     same-length
     returns
     enum-told
+    is-size-requires
     same-length-2
     returns-2
-    same-length-3
-    returns-3
     resize-requires
     resized-or-not-requires
-    same-length-4
-    returns-4)
+    same-length-3
+    returns-3)

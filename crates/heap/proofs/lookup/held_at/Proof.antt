@@ -25,8 +25,11 @@ enum-told c = search needs
 capacity-requires : tie.Need-capacity-requires
 capacity-requires c κs = (eight, ready _ _ (c .before .before .examine .ensures) (c .enum-told .given .1) .sound)
 
+refusal-number-requires-2 : tie.Need-refusal-number-requires-2
+refusal-number-requires-2 c κs = search needs
+
 returns : tie.Need-returns
-returns c = held-none _ _ _ (c .before .before .before .before .examine .ensures) (c .before .before .enum-told .given .1) _ (c .before .capacity .ensures) (c .if1 .taken)
+returns c = held-none _ _ _ (c .before .before .before .before .before .examine .ensures) (c .before .before .before .enum-told .given .1) _ (c .before .before .capacity .ensures) (c .before .if1 .taken) _ (c .refusal-number2 .ensures .0)
 
 returns-2 : tie.Need-returns-2
 returns-2 c = held-refused _ _ _ (c .before .before .before .before .examine .ensures) _ (c .before .before .v .given .1) _ (c .refusal-number .ensures .0)
@@ -43,6 +46,7 @@ held-at-spec =
     refusal-number-requires
     enum-told
     capacity-requires
+    refusal-number-requires-2
     returns
     returns-2
     returns-3)

@@ -29,10 +29,10 @@ returns : tie.Need-returns
 returns c = holds-none (c .before .before .before .before .pre .0) _ _ (c .before .before .before .before .pre .1) _ (c .before .before .find .ensures) (c .enum-told .given .1)
 
 returns-2 : tie.Need-returns-2
-returns-2 c = holds-item (c .before .before .before .before .before .before .pre .0) _ _ (c .before .before .before .before .before .before .pre .1) _ (c .before .before .before .before .find .ensures) _ _ (c .before .before .x .given .1) _ (c .item-capacity .ensures)
+returns-2 c = holds-item (c .before .before .before .before .before .before .pre .0) _ _ (c .before .before .before .before .before .before .pre .1) _ (c .before .before .before .before .find .ensures) _ _ (c .before .before .x .given .1) _ (omega arith)
 
 returns-3 : tie.Need-returns-3
-returns-3 c = holds-block (c .before .before .before .before .before .before .pre .0) _ _ (c .before .before .before .before .before .before .pre .1) _ (c .before .before .before .before .find .ensures) _ (c .before .before .x2 .given .1) _ (c .block-capacity .ensures)
+returns-3 c = holds-block (c .before .before .before .before .before .before .pre .0) _ _ (c .before .before .before .before .before .before .pre .1) _ (c .before .before .before .before .find .ensures) _ (c .before .before .x2 .given .1) _ (omega arith)
 
 pub capacity-spec : {M : Type 1} → statement M
 capacity-spec =

@@ -31,14 +31,14 @@ enum-told c = search needs
 meet-requires : tie.Need-meet-requires
 meet-requires c κs = (eight, ready _ _ (c .before .before .examine .ensures) (c .enum-told .given .1) .sound)
 
-add-next : tie.Need-add-next
-add-next c = search needs
+add-t12 : tie.Need-add-t12
+add-t12 c = search needs
 
 returns : tie.Need-returns
 returns c = tells-refusal _ (ended wide _) (λ L. step wide _ L) _ (c .before .before .before .before .before .examine .ensures) _ (c .before .before .before .v .given .1) _ (c .before .refusal-number .ensures .0) _ (stays-there _ (c .no-block .result) (c .no-block .ensures .1 8 _))
 
 returns-2 : tie.Need-returns-2
-returns-2 c = tells-answer _ (ended wide _) (λ L. step wide _ L) _ (c .before .before .before .before .examine .ensures) (c .before .before .enum-told .given .1) _ (c .before .meet .ensures .answer)
+returns-2 c = tells-answer _ (ended wide _) (λ L. step wide _ L) _ (c .before .before .before .before .before .examine .ensures) (c .before .before .before .enum-told .given .1) _ (c .before .before .meet .ensures .answer)
 
 pub step-spec : {M : Type 1} → statement M
 step-spec =
@@ -50,6 +50,6 @@ step-spec =
     no-block-requires
     enum-told
     meet-requires
-    add-next
+    add-t12
     returns
     returns-2)
