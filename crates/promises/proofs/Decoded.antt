@@ -17,7 +17,7 @@ use Rattle.model.specs.Layout.{Slot, idle, held, Use, variable, page, Block, fr
 use Rattle.model.specs.Sound.{times, Apart, AllowedUse, Allowed, AllAllowed, idleItems, Valid, Here, Sound}
 use Rattle.model.proofs.Sizes.{flags-idle}
 use Rattle.model.proofs.blocks.Blocks.{le-ends}
-use Rattle.sound.specs.Onward.{Slots, kindOf, Headers, Reads}
+use Rattle.sound.specs.Onward.{Slots, useKind, Headers, Reads}
 use Rattle.sound.specs.Lists.{named, Chain, Chains}
 use Rattle.sound.proofs.MapLaws.{fewer}
 use Rattle.sound.proofs.Pages.{classAt, page-class}
@@ -55,8 +55,8 @@ module _ {w : ℕ} (wd : Width w) where
     unfoldable useAt : ℕ → ℕ → Use
     useAt p t = cond (eqb (t % 8) 2) (variable (t - 2)) (pageAt (classAt w b p) p t)
 
-    use-is : (p t : ℕ) (u : Use) → AllowedUse (shape w) u → Headers w b p u → t ≡ useSize (shape w) u + kindOf u → useAt p t ≡ u
-    unfolding useAt Headers kindOf AllowedUse useSize
+    use-is : (p t : ℕ) (u : Use) → AllowedUse (shape w) u → Headers w b p u → t ≡ useSize (shape w) u + useKind u → useAt p t ≡ u
+    unfolding useAt Headers useKind AllowedUse useSize
     use-is p t (variable s) a h e =
         let f : t ≡ s + 2 = e in
         let g : s % 8 ≡ 0 = a .1 in

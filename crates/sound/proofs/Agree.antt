@@ -15,7 +15,7 @@ use Rattle.model.specs.Parts.{classIn, firstFreeAt, headAt, firstItemAt}
 use Rattle.model.specs.Layout.{Slot, variable, page, Block, free, used, useSize, sizeOf}
 use Rattle.model.specs.Sound.{times, idleSlots, idleIn, idleItems}
 use Rattle.model.proofs.pictures.Drawn.{times-append}
-use Rattle.sound.specs.Onward.{Slots, kindOf, Headers, Reads, freeIn, freeItems}
+use Rattle.sound.specs.Onward.{Slots, useKind, Headers, Reads, freeIn, freeItems}
 use Rattle.sound.specs.Maps.{NoMarks, offsetBit, offsetAtBit, indexBit}
 use Rattle.sound.specs.Lists.{FreeItemAt, Chain, Chains, flat, Listed, Filled}
 use Rattle.sound.specs.Told.{BlocksMarked}
@@ -40,7 +40,7 @@ module _ {w : ℕ} (wd : Width w) (b : List ℕ) (x : ℕ) where
 
   -- the free items at x of all classes are those of that class
   free-class : (p prev : ℕ) (bs : List Block) → index (shape w) ≤ p → Reads w b p prev bs → times x (freeItems w p bs) ≡ times x (idleItems (shape w) class p bs)
-  unfolding Reads kindOf Headers freeItems freeIn idleItems idleIn sizeOf
+  unfolding Reads useKind Headers freeItems freeIn idleItems idleIn sizeOf
   free-class p prev [] h r = refl
   free-class p prev (free s ∷ bs) h r = free-class (p + s) p bs (omega arith) (r .1)
   free-class p prev (used (variable s) ∷ bs) h r = free-class (p + useSize (shape w) (variable s)) prev bs (omega arith) (r .1)

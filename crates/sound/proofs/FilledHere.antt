@@ -14,7 +14,7 @@ use Rattle.model.specs.Layout.{Slot, idle, held, variable, page, Block, free, u
 use Rattle.model.specs.Sound.{times, AllowedUse, Allowed, AllAllowed, idleSlots, idleIn, idleItems, Here, Sound}
 use Rattle.model.proofs.pictures.Pictures.{shows-append}
 use Rattle.model.proofs.pictures.Drawn.{times-append}
-use Rattle.sound.specs.Onward.{Slots, kindOf, Headers, Reads}
+use Rattle.sound.specs.Onward.{Slots, useKind, Headers, Reads}
 use Rattle.sound.specs.Lists.{Chains, Filled}
 use Rattle.sound.specs.Told.{Fixed}
 use Rattle.sound.proofs.Chained.{chain-head, chain-next, chains-at, chains-length}
@@ -33,7 +33,7 @@ module _ {w : ℕ} (wd : Width w) (b : List ℕ) (ls : List (List ℕ)) where
   slots-show c p (held ∷ ss) h s k = (s .0, slots-show c (p + itemSize (shape w) c) ss (omega arith) (s .1) k)
 
   blocks-show : (p prev : ℕ) (bs : List Block) → index (shape w) ≤ p → AllAllowed (shape w) bs → Reads w b p prev bs → ((c : ℕ) → c < shape w .classes → Named c (idleItems (shape w) c p bs)) → Shows w b (blockWords (shape w) ls p prev 0 bs)
-  unfolding Reads kindOf Headers blockWords own useWords useSize sizeOf idleItems idleIn AllAllowed Allowed AllowedUse Shows
+  unfolding Reads useKind Headers blockWords own useWords useSize sizeOf idleItems idleIn AllAllowed Allowed AllowedUse Shows
   blocks-show p prev [] h a r k = tt
   blocks-show p prev (free s ∷ bs) h a r k = (r .0 .0, (r .0 .1, (r .0 .2, (r .0 .3, blocks-show (p + s) p bs (omega arith) (a .1) (r .1) k))))
   blocks-show p prev (used (variable s) ∷ bs) h a r k = (r .0 .0, (r .0 .1, blocks-show (p + useSize (shape w) (variable s)) prev bs (omega arith) (a .1) (r .1) k))

@@ -14,7 +14,7 @@ use Rattle.model.specs.Parts.{pageKind, tagOf, freeHeader, farTagAt, headAt, fi
 use Rattle.model.specs.Layout.{Slot, idle, held, variable, page, Block, free, used, Layout, headOf, nextOf, useSize, sizeOf, firstFree, header, slotWords, useWords, own, blockWords, headWords, fixedLow, fixedHigh, words}
 use Rattle.model.specs.Sound.{times, AllowedUse, Allowed, AllAllowed, idleItems, Here, Sound}
 use Rattle.model.proofs.pictures.Pictures.{shows-left, shows-right}
-use Rattle.sound.specs.Onward.{Slots, kindOf, Headers, Reads}
+use Rattle.sound.specs.Onward.{Slots, useKind, Headers, Reads}
 use Rattle.sound.specs.Lists.{FreeItemAt, named, Chain, Chains, Filled}
 use Rattle.sound.specs.Told.{Fixed}
 use Rattle.model.proofs.items.Offsets.{items-off, items-once}
@@ -32,7 +32,7 @@ module _ {w : ℕ} (wd : Width w) (b : List ℕ) (ls : List (List ℕ)) (aligned
   slots-of c p (held ∷ ss) h s = (s .0, slots-of c (p + itemSize (shape w) c) ss h (s .1))
 
   reads-of : (p prev : ℕ) (bs : List Block) → AllAllowed (shape w) bs → Shows w b (blockWords (shape w) ls p prev 0 bs) → Reads w b p prev bs
-  unfolding blockWords own sizeOf useSize Reads kindOf Headers AllAllowed Allowed AllowedUse useWords Shows
+  unfolding blockWords own sizeOf useSize Reads useKind Headers AllAllowed Allowed AllowedUse useWords Shows
   reads-of p prev [] a s = tt
   reads-of p prev (free t ∷ bs) a s = ((s .0, s .1 .0, s .1 .1 .0, s .1 .1 .1 .0), reads-of (p + t) p bs (a .1) (s .1 .1 .1 .1))
   reads-of p prev (used (variable t) ∷ bs) a s = ((s .0, s .1 .0, tt), reads-of (p + useSize (shape w) (variable t)) prev bs (a .1) (s .1 .1))

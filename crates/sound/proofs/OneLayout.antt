@@ -11,7 +11,7 @@ use Rattle.model.specs.Layout.{Slot, idle, held, Use, variable, page, Block, fr
 use Rattle.model.specs.Sound.{AllowedUse, Allowed, AllAllowed}
 use Rattle.model.specs.Promises.{OneLayout}
 use Rattle.model.proofs.blocks.Blocks.{le-ends}
-use Rattle.sound.specs.Onward.{Slots, kindOf, Headers, Reads}
+use Rattle.sound.specs.Onward.{Slots, useKind, Headers, Reads}
 use Rattle.sound.proofs.Pages.{page-class}
 use Rattle.sound.proofs.Walks.{use-size, use-kind}
 use Rattle.sound.proofs.Chained.{same-chains}
@@ -36,8 +36,8 @@ module _ {w : ℕ} (wd : Width w) where
       let n : length ss ≡ length ts = a .1 ∙ sym (b′ .1) in
       ap₂ (λ (x : ℕ) (y : List Slot). page c x y) (omega (arith, e, ap (λ (x : ℕ). x * itemSize (shape w) c) n)) (slots-one b c (firstItemAt (shape w) p) ss ts n h g)
 
-  use-one : (b : List ℕ) (p : ℕ) (u v : Use) → AllowedUse (shape w) u → AllowedUse (shape w) v → tagOf (useSize (shape w) u) (kindOf u) ≡ tagOf (useSize (shape w) v) (kindOf v) → Headers w b p u → Headers w b p v → u ≡ v
-  unfolding kindOf Headers
+  use-one : (b : List ℕ) (p : ℕ) (u v : Use) → AllowedUse (shape w) u → AllowedUse (shape w) v → tagOf (useSize (shape w) u) (useKind u) ≡ tagOf (useSize (shape w) v) (useKind v) → Headers w b p u → Headers w b p v → u ≡ v
+  unfolding useKind Headers
   use-one b p (variable s) (variable t) a b′ e h k = unfold useSize in ap (λ (x : ℕ). variable x) (omega (arith, e))
   use-one b p (variable s) (page d j ts) a b′ e h k = absurd (omega (arith, use-size wd (variable s) a, use-size wd (page d j ts) b′))
   use-one b p (page c i ss) (variable t) a b′ e h k = absurd (omega (arith, use-size wd (page c i ss) a, use-size wd (variable t) b′))

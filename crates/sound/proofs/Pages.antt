@@ -12,7 +12,7 @@ use Rattle.model.specs.Parts.{variableKind, pageKind, freeMark, heldHeader, cla
 use Rattle.model.specs.Layout.{Slot, idle, held, Use, variable, page, useSize}
 use Rattle.model.specs.Sound.{AllowedUse, idleSlots}
 use Rattle.model.proofs.Sizes.{per-page-bound, page-items-bound, item-even, class-few, class-held, page-eight, first-even}
-use Rattle.sound.specs.Onward.{Slots, Items, kindOf, Headers, UseAt, freeIn}
+use Rattle.sound.specs.Onward.{Slots, Items, useKind, Headers, UseAt, freeIn}
 use Rattle.sound.specs.Maps.{NoMarks, itemBit, mapEnd}
 use Rattle.sound.specs.Told.{Marking, MarkRoom, ItemsMarked, ItemsTold, UseRoom, UseMarked, UseTold}
 use Rattle.sound.proofs.MapLaws.{adds-none, adds-mark, marking-on, marking-more, marked-pos, length-marked}
@@ -153,16 +153,16 @@ page-is {w} b p s c k ss a e h =
     record { least-size = omega (arith, z); most-size = omega (arith, z, a .2); items = record { slots = ss; count = a .1; headers = h } }
 
 pub page-in : {w : ℕ} → Width w → (b : List ℕ) (p s : ℕ) → UseAt w b p s pageKind → PageIs w b p s (classAt w b p)
-unfolding kindOf Headers
+unfolding useKind Headers
 page-in {w} wd b p s r = go (r .use-is) (r .allowed) (r .size) (r .kind-is) (r .headers)
   where
-    go : (u : Use) → AllowedUse (shape w) u → useSize (shape w) u ≡ s → kindOf u ≡ pageKind → Headers w b p u → PageIs w b p s (classAt w b p)
+    go : (u : Use) → AllowedUse (shape w) u → useSize (shape w) u ≡ s → useKind u ≡ pageKind → Headers w b p u → PageIs w b p s (classAt w b p)
     go (variable t) a e f h = absurd (omega arith)
     go (page c k ss) a e f h = subst (λ (x : ℕ). PageIs w b p s x) (page-class wd b c k p ss a h) (page-is b p s c k ss a e h)
 
 pub page-out : {w : ℕ} → Width w → (b : List ℕ) (p s c : ℕ) (m m′ : List ℕ) → c < shape w .classes → s % 8 ≡ 0 → pageNeed (shape w) c ≤ s → s < pageNeed (shape w) c + leastFree (shape w)
     → ItemsMarked w b c (firstItemAt (shape w) p) (shape w .perPage c) m m′ → UseMarked w b p s pageKind m m′
-unfolding AllowedUse useSize kindOf Headers freeIn
+unfolding AllowedUse useSize useKind Headers freeIn
 page-out {w} wd b p s c m m′ lc a l h i =
     record {
       use-at = record {
@@ -177,23 +177,23 @@ page-out {w} wd b p s c m m′ lc a l h i =
 
 -- a variable block
 pub variable-in : {w : ℕ} (b : List ℕ) (p s : ℕ) → UseAt w b p s variableKind → leastVariable (shape w) ≤ s
-unfolding kindOf AllowedUse useSize
+unfolding useKind AllowedUse useSize
 variable-in {w} b p s r = go (r .use-is) (r .allowed) (r .size) (r .kind-is)
   where
-    go : (u : Use) → AllowedUse (shape w) u → useSize (shape w) u ≡ s → kindOf u ≡ variableKind → leastVariable (shape w) ≤ s
+    go : (u : Use) → AllowedUse (shape w) u → useSize (shape w) u ≡ s → useKind u ≡ variableKind → leastVariable (shape w) ≤ s
     go (variable t) a e f = omega (arith, a .0)
     go (page c k ss) a e f = absurd (omega arith)
 
 pub variable-out : {w : ℕ} → Width w → (b : List ℕ) (p s : ℕ) (m : List ℕ) → s % 8 ≡ 0 → leastVariable (shape w) ≤ s → UseMarked w b p s variableKind m m
-unfolding kindOf Headers freeIn AllowedUse useSize
+unfolding useKind Headers freeIn AllowedUse useSize
 variable-out wd b p s m a h = record { use-at = record { use-is = variable s; allowed = (h, a); size = refl; kind-is = refl; headers = tt }; adds = adds-none wd m }
 
 -- no other kind
 pub other-in : {w : ℕ} (b : List ℕ) (p s kind : ℕ) → (kind ≡ variableKind → ⊥) → (kind ≡ pageKind → ⊥) → UseAt w b p s kind → ⊥
-unfolding kindOf
+unfolding useKind
 other-in {w} b p s kind n m r = go (r .use-is) (r .kind-is)
   where
-    go : (u : Use) → kindOf u ≡ kind → ⊥
+    go : (u : Use) → useKind u ≡ kind → ⊥
     go (variable t) e = n (sym e)
     go (page c k ss) e = m (sym e)
 

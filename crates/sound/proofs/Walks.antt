@@ -15,7 +15,7 @@ use Rattle.model.specs.inner.Walks.{flag}
 use Rattle.model.proofs.blocks.Blocks.{le-ends}
 use Rattle.model.proofs.Sizes.{start-eight}
 use Rattle.model.proofs.walks.Standing.{sizes}
-use Rattle.sound.specs.Onward.{kindOf, UseAt, Reads, Onward, freeIn, freeItems}
+use Rattle.sound.specs.Onward.{useKind, UseAt, Reads, Onward, freeIn, freeItems}
 use Rattle.sound.specs.Maps.{NoMarks, mapEnd}
 use Rattle.sound.specs.Told.{Sizes, Marking, UseMarked, UseTold, BlocksMarked, BlocksTold}
 use Rattle.sound.proofs.MapLaws.{adds-none, adds-append, marked-none, marked-pos, marking-on}
@@ -33,8 +33,8 @@ flag-none : (t : Bool) → flag t + 1 ≤ 1 → t ≡ false
 flag-none true h = absurd (omega arith)
 flag-none false h = refl
 
-pub use-kind : (u : Use) → (2 ≤ kindOf u) × (kindOf u ≤ 3)
-unfolding kindOf
+pub use-kind : (u : Use) → (2 ≤ useKind u) × (useKind u ≤ 3)
+unfolding useKind
 use-kind (variable s) = omega arith
 use-kind (page c k ss) = omega arith
 
@@ -80,9 +80,9 @@ module _ {w : ℕ} (wd : Width w) {b : List ℕ} {end p prev : ℕ} {touching : 
       go (used u ∷ bs) h f a n l =
           let z = use-size wd u (a .0) in
           let y = use-kind u in
-          let walk : t ≡ tagOf (useSize (shape w) u) (kindOf u) = et ∙ h .0 .0 in
+          let walk : t ≡ tagOf (useSize (shape w) u) (useKind u) = et ∙ h .0 .0 in
           let e : s ≡ useSize (shape w) u = omega (arith, z, y) in
-          let k : kindIn t ≡ kindOf u = omega (arith, z, y) in
+          let k : kindIn t ≡ useKind u = omega (arith, z, y) in
           rw e (record {
             big = use-size wd u (a .0) .0;
             inside = omega (arith, le-ends (shape w) (p + useSize (shape w) u) bs);

@@ -24,9 +24,9 @@ pub record Items (w : ℕ) (b : List ℕ) (c q n : ℕ) : Type 0 where
   pub headers : Slots w b c q slots
 
 -- what the tag of a block in use says that it is
-unfoldable pub kindOf : Use → ℕ
-kindOf (variable s) = variableKind
-kindOf (page c k ss) = pageKind
+unfoldable pub useKind : Use → ℕ
+useKind (variable s) = variableKind
+useKind (page c k ss) = pageKind
 
 -- the item headers of a block in use at p
 unfoldable pub Headers : ℕ → List ℕ → ℕ → Use → Type 0
@@ -38,7 +38,7 @@ pub record UseAt (w : ℕ) (b : List ℕ) (p s kind : ℕ) : Type 0 where
   pub use-is : Use
   pub allowed : AllowedUse (shape w) use-is
   pub size : useSize (shape w) use-is ≡ s
-  pub kind-is : kindOf use-is ≡ kind
+  pub kind-is : useKind use-is ≡ kind
   pub headers : Headers w b p use-is
 
 -- blocks stand in the bytes from p on, with the links of the free ones; prev is the free block before
@@ -51,8 +51,8 @@ Reads w b p prev (free s ∷ bs) =
     × (wordAt w b (farTagAt (shape w) p s) ≡ s))
     × Reads w b (p + s) p bs
 Reads w b p prev (used u ∷ bs) =
-    ((wordAt w b p ≡ tagOf (useSize (shape w) u) (kindOf u))
-    × (wordAt w b (farTagAt (shape w) p (useSize (shape w) u)) ≡ tagOf (useSize (shape w) u) (kindOf u))
+    ((wordAt w b p ≡ tagOf (useSize (shape w) u) (useKind u))
+    × (wordAt w b (farTagAt (shape w) p (useSize (shape w) u)) ≡ tagOf (useSize (shape w) u) (useKind u))
     × Headers w b p u)
     × Reads w b (p + useSize (shape w) u) prev bs
 
