@@ -1,3 +1,4 @@
+use native.Mathlib.Omega.{arith}
 use mathlib.Core.Path.{refl}
 use Rattle.model.specs.Picture.{draw}
 use Rattle.fresh.specs.Fresh.{lowWords}
@@ -6,7 +7,7 @@ use Rattle.fresh.proofs.write_header.Statement.{statement}
 use Rattle.fresh.proofs.write_header.Tie as tie
 use Rattle.fresh.proofs.write_header.Reads as reads
 use Rattle.fresh.proofs.write_header.Lts as lts
-use Rattle.model.proofs.first_free.Reads as first-free-reads
+use Rattle.model.proofs.first_free_at.Reads as first-free-at-reads
 use Rattle.model.proofs.index.Reads as index-reads
 use Rattle.model.proofs.index_tag.Reads as index-tag-reads
 use Rattle.model.proofs.magic.Reads as magic-reads
@@ -22,11 +23,14 @@ magic-requires c κs = search needs
 put-word-requires : tie.Need-put-word-requires
 put-word-requires c κs = search needs
 
+data-at-requires : tie.Need-data-at-requires
+data-at-requires c κs = search needs
+
 put-word-requires-2 : tie.Need-put-word-requires-2
 put-word-requires-2 c κs = search needs
 
-add-put-word : tie.Need-add-put-word
-add-put-word c = search needs
+index-at-requires : tie.Need-index-at-requires
+index-at-requires c κs = search needs
 
 index-requires : tie.Need-index-requires
 index-requires c κs = search needs
@@ -34,39 +38,33 @@ index-requires c κs = search needs
 put-word-requires-3 : tie.Need-put-word-requires-3
 put-word-requires-3 c κs = search needs
 
-first-free-requires : tie.Need-first-free-requires
-first-free-requires c κs = search needs
+first-free-at-requires : tie.Need-first-free-at-requires
+first-free-at-requires c κs = search needs
 
 put-word-requires-4 : tie.Need-put-word-requires-4
 put-word-requires-4 c κs = search needs
 
-mul-put-word : tie.Need-mul-put-word
-mul-put-word c = search needs
-
-add-put-word-2 : tie.Need-add-put-word-2
-add-put-word-2 c = search needs
+end-at-requires : tie.Need-end-at-requires
+end-at-requires c κs = search needs
 
 put-word-requires-5 : tie.Need-put-word-requires-5
-put-word-requires-5 c κs = search needs
+put-word-requires-5 c κs = omega (arith, c .before .before .before .before .before .before .before .before .before .before .before .before .before .before .before .before .before .before .before .before .before .before .before .before .before .pre, c .before .before .before .before .before .before .before .before .before .before .before .before .before .before .before .before .before .before .before .before .put-word .kept .1 .0, c .before .before .before .before .before .before .before .before .before .before .before .before .before .before .before .put-word2 .kept .1 .0, c .before .before .before .before .before .before .before .before .before .put-word3 .kept .1 .0, c .before .before .before .before .put-word4 .kept .1 .0)
 
-mul-put-word-2 : tie.Need-mul-put-word-2
-mul-put-word-2 c = search needs
-
-add-put-word-3 : tie.Need-add-put-word-3
-add-put-word-3 c = search needs
+index-tag-at-requires : tie.Need-index-tag-at-requires
+index-tag-at-requires c κs = c .before .before .before .before .before .before .before .before .before .before .before .before .before .before .before .before .before .before .before .before .before .before .before .before .before .before .before .before .before .pre .0
 
 index-tag-requires : tie.Need-index-tag-requires
-index-tag-requires c κs = search needs
+index-tag-requires c κs = c .before .before .before .before .before .before .before .before .before .before .before .before .before .before .before .before .before .before .before .before .before .before .before .before .before .before .before .before .before .before .pre .0
 
 put-word-requires-6 : tie.Need-put-word-requires-6
-put-word-requires-6 c κs = search needs
+put-word-requires-6 c κs = omega (arith, c .before .before .before .before .before .before .before .before .before .before .before .before .before .before .before .before .before .before .before .before .before .before .before .before .before .before .before .before .before .before .before .pre, c .before .before .before .before .before .before .before .before .before .before .before .before .before .before .before .before .before .before .before .before .before .before .before .before .before .before .put-word .kept .1 .0, c .before .before .before .before .before .before .before .before .before .before .before .before .before .before .before .before .before .before .before .before .before .put-word2 .kept .1 .0, c .before .before .before .before .before .before .before .before .before .before .before .before .before .before .before .put-word3 .kept .1 .0, c .before .before .before .before .before .before .before .before .before .before .put-word4 .kept .1 .0, c .before .before .before .before .before .put-word5 .kept .1 .0)
 
 same-length : tie.Need-same-length
-same-length c = search needs
+same-length c = omega (arith, c .before .before .before .before .before .before .before .before .before .before .before .before .before .before .before .before .before .before .before .before .before .before .before .before .before .before .before .before .before .put-word .kept .1 .0, c .before .before .before .before .before .before .before .before .before .before .before .before .before .before .before .before .before .before .before .before .before .before .before .before .put-word2 .kept .1 .0, c .before .before .before .before .before .before .before .before .before .before .before .before .before .before .before .before .before .before .put-word3 .kept .1 .0, c .before .before .before .before .before .before .before .before .before .before .before .before .before .put-word4 .kept .1 .0, c .before .before .before .before .before .before .before .before .put-word5 .kept .1 .0, c .before .before .put-word6 .kept .1 .0)
 
 returns : tie.Need-returns
 unfolding draw lowWords
-returns c = rw (c .before .before .put-word6 .ensures, c .before .before .before .before .before .before .before .put-word5 .ensures, c .before .before .before .before .before .before .before .before .before .before .before .put-word4 .ensures, c .before .before .before .before .before .before .before .before .before .before .before .before .before .before .before .before .put-word3 .ensures, c .before .before .before .before .before .before .before .before .before .before .before .before .before .before .before .before .before .before .before .before .before .put-word2 .ensures, c .before .before .before .before .before .before .before .before .before .before .before .before .before .before .before .before .before .before .before .before .before .before .before .before .before .put-word .ensures, c .before .before .before .index-tag .ensures, c .before .before .before .before .before .before .before .before .before .before .before .before .first-free .ensures, c .before .before .before .before .before .before .before .before .before .before .before .before .before .before .before .before .before .index .ensures, c .before .before .before .before .before .before .before .before .before .before .before .before .before .before .before .before .before .before .before .before .before .before .before .before .before .before .magic .ensures, c .before .before .before .before .before .before .before .before .before .before .before .before .before .before .before .before .before .before .before .before .before .before .before .before .before .before .before .before .start .ensures) refl
+returns c = rw (c .before .before .put-word6 .ensures, c .before .before .before .before .before .before .before .before .put-word5 .ensures, c .before .before .before .before .before .before .before .before .before .before .before .before .before .put-word4 .ensures, c .before .before .before .before .before .before .before .before .before .before .before .before .before .before .before .before .before .before .put-word3 .ensures, c .before .before .before .before .before .before .before .before .before .before .before .before .before .before .before .before .before .before .before .before .before .before .before .before .put-word2 .ensures, c .before .before .before .before .before .before .before .before .before .before .before .before .before .before .before .before .before .before .before .before .before .before .before .before .before .before .before .before .before .put-word .ensures, c .before .before .before .index-tag .ensures, c .before .before .before .before .index-tag-at .ensures, c .before .before .before .before .before .before .before .before .before .end-at .ensures, c .before .before .before .before .before .before .before .before .before .before .before .before .before .before .first-free-at .ensures, c .before .before .before .before .before .before .before .before .before .before .before .before .before .before .before .before .before .before .before .index .ensures, c .before .before .before .before .before .before .before .before .before .before .before .before .before .before .before .before .before .before .before .before .index-at .ensures, c .before .before .before .before .before .before .before .before .before .before .before .before .before .before .before .before .before .before .before .before .before .before .before .before .before .data-at .ensures, c .before .before .before .before .before .before .before .before .before .before .before .before .before .before .before .before .before .before .before .before .before .before .before .before .before .before .before .before .before .before .magic .ensures, c .before .before .before .before .before .before .before .before .before .before .before .before .before .before .before .before .before .before .before .before .before .before .before .before .before .before .before .before .before .before .before .before .start .ensures) refl
 
 pub write-header-spec : {M : Type 1} → statement M
 write-header-spec =
@@ -75,17 +73,16 @@ write-header-spec =
     start-requires
     magic-requires
     put-word-requires
+    data-at-requires
     put-word-requires-2
-    add-put-word
+    index-at-requires
     index-requires
     put-word-requires-3
-    first-free-requires
+    first-free-at-requires
     put-word-requires-4
-    mul-put-word
-    add-put-word-2
+    end-at-requires
     put-word-requires-5
-    mul-put-word-2
-    add-put-word-3
+    index-tag-at-requires
     index-tag-requires
     put-word-requires-6
     same-length
