@@ -1,5 +1,6 @@
 // A fresh heap: the fixed words, no item on any list, and one free block from the data area's start to the end.
 use links::put_free;
+use model::MAGIC_BYTES;
 use model::Position;
 use model::classes;
 use model::data_at;
@@ -34,7 +35,7 @@ fn write_header(w: usize, h: &mut [u8], end: Position)
     ensures { λ _. ⌜ now (h .exit) ≡ draw w (lowWords w (end .0)) (put 8 (now (h .entry)) 0 (shape w .magic)) ⌝ }
 {
     let data = start(w);
-    put_word(8, h, 0, magic(w));
+    put_word(MAGIC_BYTES, h, 0, magic(w));
     put_word(w, h, data_at(w).0, data.0);
     put_word(w, h, index_at(w).0, index(w).0);
     put_word(w, h, first_free_at(w).0, data.0);

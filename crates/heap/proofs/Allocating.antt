@@ -13,7 +13,7 @@ use Rattle.model.specs.Rules.{Made, allocate}
 use Rattle.model.specs.Refusals.{badSize}
 use Rattle.model.specs.Calls.{Outcome, refused, sized, made, allocated, drawn}
 use Rattle.engine.specs.declared.allocate.Taken.{Taken}
-use Rattle.engine.specs.Allocate.{takenOf, bytesOf, Gives, Allocates}
+use Rattle.engine.specs.Allocate.{takenOf, bytesOf, Gives, GivesSize}
 use Rattle.heap.specs.declared.Answer.{Answer}
 use Rattle.heap.specs.Answers.{answerOf, outcome}
 
@@ -38,7 +38,7 @@ gives-made b c L o t g = rw (g .answer, g .bytes) (go o)
     go none = refl
     go (some m) = refl
 
-pub allocates : (b : List ℕ) (n : ℕ) (t : Taken) (r : Answer) (c : List ℕ) → (1 ≤ n) × (n ≤ wide .most) → Allocates 8 b n t c → r ≡ answerOf t → (L : Layout) → Here wide b L
+pub allocates : (b : List ℕ) (n : ℕ) (t : Taken) (r : Answer) (c : List ℕ) → (1 ≤ n) × (n ≤ wide .most) → GivesSize 8 b n t c → r ≡ answerOf t → (L : Layout) → Here wide b L
     → outcome r c ≡ sized wide n b (allocated wide b n L)
 allocates b n t r c z g e L h =
     ap (λ (x : Answer). outcome x c) e ∙ gives-made b c L (allocate wide n L) t (g .is L h) ∙ sym (good-size n b (allocated wide b n L) z)

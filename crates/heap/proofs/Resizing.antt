@@ -10,7 +10,7 @@ use Rattle.model.specs.Refusals.{notLive}
 use Rattle.model.specs.Calls.{refused, sized, found, moved, resized}
 use Rattle.resizing.specs.declared.resize.Resized.{Resized}
 use Rattle.resizing.specs.declared.resize.Resized.the-variants as to
-use Rattle.resizing.specs.Move.{outcomeOf, Resizes}
+use Rattle.resizing.specs.Move.{outcomeOf, MovesOrStays}
 use Rattle.heap.specs.declared.Answer.{Answer}
 use Rattle.heap.specs.Answers.{resizedAs, outcome}
 use Rattle.heap.proofs.Allocating.{good-size}
@@ -20,7 +20,7 @@ as-told (to.To a) c = refl
 as-told to.NotLive c = refl
 as-told to.NoRoom c = refl
 
-pub resizes : (b : List ℕ) (a n : ℕ) (t : Resized) (r : Answer) (c : List ℕ) → (1 ≤ n) × (n ≤ wide .most) → Resizes 8 b a n t c → r ≡ resizedAs t → (L : Layout) → Here wide b L
+pub resizes : (b : List ℕ) (a n : ℕ) (t : Resized) (r : Answer) (c : List ℕ) → (1 ≤ n) × (n ≤ wide .most) → MovesOrStays 8 b a n t c → r ≡ resizedAs t → (L : Layout) → Here wide b L
     → outcome r c ≡ sized wide n b (found wide (find wide a L) (refused b notLive) (resized wide b a (moved wide b a n L) (stays wide n (find wide a L) L)))
 resizes b a n t r c z g e L h =
     ap (λ (x : Answer). outcome x c) e ∙ as-told t c ∙ g .is L h

@@ -12,6 +12,7 @@ pub use crate::walking::Walk;
 use engine::allocate as taking;
 use engine::free as giving;
 use model::Address;
+use model::MAGIC_BYTES;
 use model::longest;
 use model::magic;
 use model::shortest;
@@ -28,9 +29,6 @@ ghost use Rattle.heap.specs.Answers.{Examined, answerOf, resizedAs, outc
 
 // The bytes of a word of document 01's heap.
 const WORD: usize = 8;
-
-// The bytes of the magic number, which begins a heap of any width.
-const MAGIC_BYTES: usize = 8;
 
 // Why a call says no, in the order of document 01's numbers, 1 to 7.
 pub enum Refusal {

@@ -52,7 +52,9 @@ pub fn item_at(w: usize, o: ItemOffset) -> Position
     Position(index(w).0 + o.0)
 }
 
-// The first eight bytes of an opened heap, as one word of eight bytes.
+// A heap of either width begins with eight bytes; as one word of eight bytes they are its magic number.
+pub const MAGIC_BYTES: usize = 8;
+
 pub fn magic(w: usize) -> usize
     ensures { λ r. ⌜ r ≡ shape w .magic ⌝ }
 {

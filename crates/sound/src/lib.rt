@@ -2,6 +2,7 @@
 // What counts marks answers one more than their number, and 0 where the heap is not sound.
 use model::FREE;
 use model::ItemOffset;
+use model::MAGIC_BYTES;
 use model::PAGE;
 use model::Position;
 use model::VARIABLE;
@@ -336,7 +337,7 @@ fn is_fixed(w: usize, h: &[u8], end: Position) -> bool
     requires { ⌜ Width w × (start (shape w) ≤ length (now h)) ⌝ }
     ensures { λ r. ⌜ Tells r (Fixed w (now (h .entry)) (end .0)) ⌝ }
 {
-    if word(8, h, 0) != magic(w) {
+    if word(MAGIC_BYTES, h, 0) != magic(w) {
         return false;
     }
     if word(w, h, data_at(w).0) != start(w).0 {

@@ -30,7 +30,7 @@ returns-2 : tie.Need-returns-2
 returns-2 c = examined-word _ (c .before .before .before .before .is-lent .ensures .yes-is (not-false _ (c .before .before .before .if1 .left))) _ (c .before .before .word .ensures) (λ e. c .if2 .taken (e ∙ sym (c .before .magic .ensures)))
 
 is-sound-requires : tie.Need-is-sound-requires
-is-sound-requires c κs = (eight, c .before .before .before .before .is-lent .ensures .yes-is (not-false _ (c .before .before .before .if1 .left)) .0, c .before .before .before .before .is-lent .ensures .yes-is (not-false _ (c .before .before .before .if1 .left)) .1)
+is-sound-requires c κs = (eight, c .before .before .before .before .is-lent .ensures .yes-is (not-false _ (c .before .before .before .if1 .left)))
 
 returns-3 : tie.Need-returns-3
 returns-3 c = examined-unsound _ (c .before .before .before .before .before .before .is-lent .ensures .yes-is (not-false _ (c .before .before .before .before .before .if1 .left))) _ (c .before .before .before .before .word .ensures) (c .before .before .if2 .left ∙ c .before .before .before .magic .ensures) _ (c .before .is-sound .ensures) (not-true _ (c .if3 .taken))
