@@ -40,28 +40,28 @@ use Rattle.engine.specs.Ready.{Ready}
 use Rattle.model.proofs.Sizes.{page-eight, per-page-bound}
 
 -- p is where a block of size need fits first, or 0
-abbrev pub Finds : ℕ → List ℕ → ℕ → ℕ → Type 0
-Finds w b need p = (L : Layout) → Here (shape w) b L → p ≡ foundAt (shape w) (fit need (L .blocks))
+abbrev pub FindsFit : ℕ → List ℕ → ℕ → ℕ → Type 0
+FindsFit w b need p = (L : Layout) → Here (shape w) b L → p ≡ foundAt (shape w) (fit need (L .blocks))
 
 -- the same of a number that is known to be a page's need
-pub finds-page : {w : ℕ} {b : List ℕ} (need p c : ℕ) → need ≡ pageNeed (shape w) c → Finds w b need p → Finds w b (pageNeed (shape w) c) p
+pub finds-page : {w : ℕ} {b : List ℕ} (need p c : ℕ) → need ≡ pageNeed (shape w) c → FindsFit w b need p → FindsFit w b (pageNeed (shape w) c) p
 finds-page {w} need p c e f L h = f L h ∙ ap (λ (x : ℕ). foundAt (shape w) (fit x (L .blocks))) e
 
 module _ {w : ℕ} {b : List ℕ} (k : Ready w b) where
   pub ready-long : start (shape w) ≤ length b
   ready-long = here-room (shape w) b (k .sound .layout) (k .sound .here)
 
-  pub spotted : (need p : ℕ) → Finds w b need p → (p ≡ 0 → ⊥) → Spotted (shape w) b p need
+  pub spotted : (need p : ℕ) → FindsFit w b need p → (p ≡ 0 → ⊥) → Spotted (shape w) b p need
   spotted need p f z =
       let s = found-spot (shape w) b need p (k .sound .layout) (k .sound .here) (f (k .sound .layout) (k .sound .here)) z in
       record { layout = k .sound .layout; spot = s .0; is = s .2 }
 
   -- a variable block
-  pub block-none : (need p : ℕ) → Finds w b need p → p ≡ 0 → GivesBlock w b need NoRoom b
+  pub block-none : (need p : ℕ) → FindsFit w b need p → p ≡ 0 → GivesBlock w b need NoRoom b
   unfolding aBlock
   block-none need p f e = record { is = λ L h. rw (found-none (shape w) need L (sym (f L h) ∙ e)) (record { answer = refl; bytes = refl; here = h }) }
 
-  pub block-taken : (need p : ℕ) (a : List ℕ) (r : Address) → Finds w b need p → (p ≡ 0 → ⊥) → Needed w (length b) need → Placed w b p need a → r .0 ≡ addressOf (shape w) p → GivesBlock w b need (At r) a
+  pub block-taken : (need p : ℕ) (a : List ℕ) (r : Address) → FindsFit w b need p → (p ≡ 0 → ⊥) → Needed w (length b) need → Placed w b p need a → r .0 ≡ addressOf (shape w) p → GivesBlock w b need (At r) a
   unfolding aBlock
   block-taken need p a r f z n d e =
       record {
@@ -105,7 +105,7 @@ module _ {w : ℕ} {b : List ℕ} (k : Ready w b) where
       empty : (L : Layout) → Here (shape w) b L → getD (L .lists) c [] ≡ []
       empty L h = empty-list (shape w) (shape-good (k .width)) b L h c cl (k .short) zero-head
 
-      pub page-none : (p : ℕ) → Finds w b (pageNeed (shape w) c) p → p ≡ 0 → GivesItem w b c NoRoom b
+      pub page-none : (p : ℕ) → FindsFit w b (pageNeed (shape w) c) p → p ≡ 0 → GivesItem w b c NoRoom b
       unfolding anItem fromPage
       page-none p f e = record { is = λ L h. rw (empty L h, found-none (shape w) (pageNeed (shape w) c) L (sym (f L h) ∙ e)) (record { answer = refl; bytes = refl; here = h }) }
 
@@ -134,7 +134,7 @@ module _ {w : ℕ} {b : List ℕ} (k : Ready w b) where
               some-item = made-head (s .layout) (s .spot) (s .is);
             }
 
-        pub page-given : Finds w b (pageNeed (shape w) c) p → (p ≡ 0 → ⊥) → (a : List ℕ) (r : Address) → TookItem w b₁ c (r .0) a → Bytes b → GivesItem w b c (At r) a
+        pub page-given : FindsFit w b (pageNeed (shape w) c) p → (p ≡ 0 → ⊥) → (a : List ℕ) (r : Address) → TookItem w b₁ c (r .0) a → Bytes b → GivesItem w b c (At r) a
         unfolding anItem fromPage fromList
         page-given f z a r d bytes =
             record {

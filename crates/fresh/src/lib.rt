@@ -23,6 +23,7 @@ ghost use mathlib.Core.List.{[]};
 ghost use Rattle.words.specs.Width.{Width};
 ghost use Rattle.words.specs.Word.{put};
 ghost use Rattle.model.specs.Shape.{shape, index, shortest, endOf};
+ghost use Rattle.model.specs.Parts.{magicBytes};
 ghost use Rattle.model.specs.Picture.{draw};
 ghost use Rattle.model.specs.Layout.{headWords};
 ghost use Rattle.model.specs.Rules.{fresh};
@@ -32,7 +33,7 @@ ghost use Rattle.fresh.specs.Fresh.{EndRoom, lowWords, highWords};
 // The header's words, up to the index page. The magic number has eight bytes at every word size.
 fn write_header(w: usize, h: &mut [u8], end: Position)
     requires { ⌜ Width w × (shortest (shape w) ≤ length (now h)) ⌝ }
-    ensures { λ _. ⌜ now (h .exit) ≡ draw w (lowWords w (end .0)) (put 8 (now (h .entry)) 0 (shape w .magic)) ⌝ }
+    ensures { λ _. ⌜ now (h .exit) ≡ draw w (lowWords w (end .0)) (put magicBytes (now (h .entry)) 0 (shape w .magic)) ⌝ }
 {
     let data = start(w);
     put_word(MAGIC_BYTES, h, 0, magic(w));
@@ -69,7 +70,7 @@ fn write_block(w: usize, h: &mut [u8], end: Position)
 // Opens a heap over any bytes.
 pub fn lay(w: usize, h: &mut [u8])
     requires { ⌜ Width w × Lent (shape w) (now h) ⌝ }
-    ensures { λ _. ⌜ now (h .exit) ≡ drawn (shape w) (fresh (shape w) (endOf (length (now (h .entry))))) (put 8 (now (h .entry)) 0 (shape w .magic)) ⌝ }
+    ensures { λ _. ⌜ now (h .exit) ≡ drawn (shape w) (fresh (shape w) (endOf (length (now (h .entry))))) (put magicBytes (now (h .entry)) 0 (shape w .magic)) ⌝ }
 {
     let end = end_of(h.len());
     write_header(w, h, end);

@@ -3,7 +3,7 @@ use crate::Verdict;
 use crate::WORD;
 use crate::examine;
 use crate::refusal_number;
-use reading::counting::ROWS;
+use model::MOST_CLASSES;
 use reading::counting::Statistics;
 use reading::counting::count;
 use reading::counting::nothing_counted;
@@ -43,12 +43,12 @@ pub fn statistics(h: &[u8]) -> Counted
 }
 
 // For each class its pages, its live items and its free items; zeros where refused.
-pub fn class_table(h: &[u8]) -> [[u64; 3]; ROWS]
+pub fn class_table(h: &[u8]) -> [[u64; 3]; MOST_CLASSES]
     ensures { λ r. ⌜ TableTold (now (h .entry)) r ⌝ }
 {
     let v = examine(h);
     match v {
-        Verdict::Unfit(_) => [[0u64; 3]; ROWS],
+        Verdict::Unfit(_) => [[0u64; 3]; MOST_CLASSES],
         Verdict::Fine => tabulate(WORD, h),
     }
 }

@@ -11,8 +11,15 @@ pub use crate::lookup::look_up_refusal;
 pub use crate::walking::Walk;
 use engine::allocate as taking;
 use engine::free as giving;
+use model::ALREADY_OPENED;
 use model::Address;
+use model::BAD_LENGTH;
+use model::BAD_SIZE;
 use model::MAGIC_BYTES;
+use model::NOT_LIVE;
+use model::NOT_OPENED;
+use model::NOT_SOUND;
+use model::NO_ROOM;
 use model::longest;
 use model::magic;
 use model::shortest;
@@ -58,13 +65,13 @@ pub fn refusal_number(k: Refusal) -> u64
     ensures { λ r. ⌜ (r ≡ refusalNumber k) × (r ≤ alreadyOpened) ⌝ }
 {
     match k {
-        Refusal::BadLength => 1,
-        Refusal::NotOpened => 2,
-        Refusal::NotSound => 3,
-        Refusal::BadSize => 4,
-        Refusal::NotLive => 5,
-        Refusal::NoRoom => 6,
-        Refusal::AlreadyOpened => 7,
+        Refusal::BadLength => BAD_LENGTH,
+        Refusal::NotOpened => NOT_OPENED,
+        Refusal::NotSound => NOT_SOUND,
+        Refusal::BadSize => BAD_SIZE,
+        Refusal::NotLive => NOT_LIVE,
+        Refusal::NoRoom => NO_ROOM,
+        Refusal::AlreadyOpened => ALREADY_OPENED,
     }
 }
 

@@ -10,6 +10,7 @@ use Rattle.words.specs.Word.{wordAt, put}
 use Rattle.words.specs.Copy.{copied}
 use Rattle.model.specs.Picture.{draw}
 use Rattle.model.specs.Shape.{Shape, shortest, endOf}
+use Rattle.model.specs.Parts.{magicBytes}
 use Rattle.model.specs.Layout.{Layout, words}
 use Rattle.model.specs.Sound.{Here, Sound}
 use Rattle.model.specs.Rules.{Made, Found, block, thing, nothing, allocate, find, freed, capacity, stays, fresh}
@@ -43,7 +44,7 @@ module _ (S : Shape) where
   Lent b = (shortest S ≤ length b) × (length b ≤ S .most)
 
   abbrev pub Opened : List ℕ → Type 0
-  Opened b = wordAt 8 b 0 ≡ S .magic
+  Opened b = wordAt magicBytes b 0 ≡ S .magic
 
   -- the bytes with a layout's picture drawn over them
   abbrev pub drawn : Layout → List ℕ → List ℕ
@@ -73,7 +74,7 @@ module _ (S : Shape) where
   pub record Initialises (b : List ℕ) (r : Outcome) : Type 0 where
     pub one : (Lent b → ⊥) → r ≡ refused b badLength
     pub seven : Lent b → Opened b → r ≡ refused b alreadyOpened
-    pub opens : Lent b → (Opened b → ⊥) → r ≡ granted 0 (drawn (fresh S (endOf (length b))) (put 8 b 0 (S .magic)))
+    pub opens : Lent b → (Opened b → ⊥) → r ≡ granted 0 (drawn (fresh S (endOf (length b))) (put magicBytes b 0 (S .magic)))
 
   -- Check
   abbrev pub Checks : List ℕ → Outcome → Type 0

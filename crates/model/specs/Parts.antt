@@ -2,6 +2,10 @@
 use Prim.Native.Nat.{ℕ, _+_, _-_, _*_, _/_, _%_}
 use Rattle.model.specs.Shape.{Shape, index, start, tags}
 
+-- how many bytes the magic number has, at the start of a heap of any shape
+abbrev pub magicBytes : ℕ
+magicBytes = 8
+
 -- what a block is: free, variable, or a page
 abbrev pub freeKind : ℕ
 freeKind = 0

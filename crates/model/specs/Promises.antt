@@ -180,21 +180,21 @@ module _ (S : Shape) where
   Plain (resizing a n) = ⊥
 
   -- what a call of a run answered
-  pub record Answer : Type 0 where
+  pub record Reply : Type 0 where
     pub refusal : ℕ
     pub address : ℕ
 
   -- a run of allocations and frees from bytes b, with writes before each: what was answered
-  pub data Run : List ℕ → List Call → List Answer → Type 0 where
+  pub data Run : List ℕ → List Call → List Reply → Type 0 where
     over : {b : List ℕ} → Run b [] []
-    call : {b : List ℕ} (b′ : List ℕ) {q : Call} {qs : List Call} {r : Outcome} {rs : List Answer}
+    call : {b : List ℕ} (b′ : List ℕ) {q : Call} {qs : List Call} {r : Outcome} {rs : List Reply}
         → Written b b′ → Plain q → Comes b′ q r → Run (r .heap) qs rs → Run b (q ∷ qs) (record { refusal = r .refusal; address = r .address } ∷ rs)
 
   -- two fresh heaps, one longer: the same run gives the same answers, as long as the shorter one never says "no room"
   abbrev pub LongerAgrees : Type 0
   LongerAgrees =
       (b d : List ℕ) (r t : Outcome) → Initialises S b r → r .refusal ≡ 0 → Initialises S d t → t .refusal ≡ 0 → length b ≤ length d
-      → (qs : List Call) (rs ts : List Answer) → Run (r .heap) qs rs → Run (t .heap) qs ts
+      → (qs : List Call) (rs ts : List Reply) → Run (r .heap) qs rs → Run (t .heap) qs ts
       → ((a : ℕ) → record { refusal = noRoom; address = a } ∈ rs → ⊥) → rs ≡ ts
 
   -- THE PROMISES: every demand of document 01 of heaps of this shape

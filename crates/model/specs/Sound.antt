@@ -8,7 +8,7 @@ use lib.Dec.{eqb}
 use Rattle.words.specs.Word.{wordAt}
 use Rattle.model.specs.Picture.{Shows}
 use Rattle.model.specs.Shape.{Shape, start, leastFree, leastVariable, itemSize, offsetOf, endOf}
-use Rattle.model.specs.Parts.{firstItemAt}
+use Rattle.model.specs.Parts.{magicBytes, firstItemAt}
 use Rattle.model.specs.Layout.{Slot, idle, held, Use, variable, page, Block, free, used, Layout, ifFree, sizeOf, ends, words}
 
 -- how often o stands in a list
@@ -62,7 +62,7 @@ module _ (S : Shape) where
 
   -- bytes have a layout: the magic number, and every word of the picture
   pub record Here (b : List ℕ) (L : Layout) : Type 0 where
-    pub magic : wordAt 8 b 0 ≡ S .magic
+    pub magic : wordAt magicBytes b 0 ≡ S .magic
     pub valid : Valid (endOf (length b)) L
     pub shown : Shows (S .word) b (words S (endOf (length b)) L)
 

@@ -52,6 +52,15 @@ pub fn item_at(w: usize, o: ItemOffset) -> Position
     Position(index(w).0 + o.0)
 }
 
+// What a call may say no with, by document 01's numbers.
+pub const BAD_LENGTH: u64 = 1;
+pub const NOT_OPENED: u64 = 2;
+pub const NOT_SOUND: u64 = 3;
+pub const BAD_SIZE: u64 = 4;
+pub const NOT_LIVE: u64 = 5;
+pub const NO_ROOM: u64 = 6;
+pub const ALREADY_OPENED: u64 = 7;
+
 // A heap of either width begins with eight bytes; as one word of eight bytes they are its magic number.
 pub const MAGIC_BYTES: usize = 8;
 
@@ -150,6 +159,9 @@ pub fn start(w: usize) -> Position
 {
     Position(8 + 6 * w + 4 * w * w)
 }
+
+// The classes of the heap that has the most: an array's length is a constant.
+pub const MOST_CLASSES: usize = 32;
 
 // How many classes there are; where the list of class c begins, in the index page.
 pub fn classes(w: usize) -> usize

@@ -20,7 +20,7 @@ use Rattle.model.specs.Rules.{fit, before, inFront, cut, slotTo, useTo, itemTo,
 use Rattle.model.specs.Live.{_∈_}
 use Rattle.model.specs.Refusals.{badLength}
 use Rattle.model.specs.Calls.{Outcome, refused, Lent, Opened, Initialises}
-use Rattle.model.specs.Promises.{Call, initialising, checking, allocating, freeing, resizing, Comes, Answer}
+use Rattle.model.specs.Promises.{Call, initialising, checking, allocating, freeing, resizing, Comes, Reply}
 use Rattle.promises.specs.Figures.{says, word, Figure, figure, unchanged, table, Outcomes, heapThen, heapBefore, answered, OnBytes}
 use Rattle.model.proofs.Sizes.{eight}
 use Rattle.model.proofs.rules.OnLayouts.{doing}
@@ -37,11 +37,11 @@ layoutBefore L [] = L
 layoutBefore L (q ∷ []) = L
 layoutBefore L (q ∷ p ∷ qs) = layoutBefore (doing wide q L .layout) (p ∷ qs)
 
-answersOn : Layout → List Call → List (Answer wide)
+answersOn : Layout → List Call → List (Reply wide)
 answersOn L [] = []
 answersOn L (q ∷ qs) = says (doing wide q L .refusal) (doing wide q L .address) ∷ answersOn (doing wide q L .layout) qs
 
-allBad : List Call → List (Answer wide)
+allBad : List Call → List (Reply wide)
 allBad [] = []
 allBad (q ∷ qs) = says badLength 0 ∷ allBad qs
 
@@ -53,7 +53,7 @@ opened n = fresh wide (endOf n)
 lends : ℕ → Bool
 lends n = leb 344 n && leb n 1048576
 
-answersFrom : ℕ → List Call → List (Answer wide)
+answersFrom : ℕ → List Call → List (Reply wide)
 answersFrom n qs = cond (lends n) (says 0 0 ∷ answersOn (opened n) qs) (says badLength 0 ∷ allBad qs)
 
 pictureFrom : ℕ → List Call → List Word
@@ -82,7 +82,7 @@ values (v ∷ vs) = some (v .is) ∷ values vs
 
 -- what is seen of a figure: the answers, the values of its words, and the last layout where nothing changes; as layouts give them, and as it says
 record Seen : Type 0 where
-  answers : List (Answer wide)
+  answers : List (Reply wide)
   values : List (Option ℕ)
   last : Option Layout
 
@@ -156,7 +156,7 @@ runs (q ∷ qs) b L (r ∷ rs) l h o =
     let d = does eight b L l h q r (o .0) in
     let t = runs qs (r .heap) (doing wide q L .layout) rs (omega (arith, d .same, l .0), omega (arith, d .same, l .1)) (d .here) (o .1) in
     record {
-      answers = ap₂ (λ (x : ℕ) (y : ℕ). says x y ∷ answered rs) (d .refusal) (d .address) ∙ ap (λ (z : List (Answer wide)). says (doing wide q L .refusal) (doing wide q L .address) ∷ z) (t .answers);
+      answers = ap₂ (λ (x : ℕ) (y : ℕ). says x y ∷ answered rs) (d .refusal) (d .address) ∙ ap (λ (z : List (Reply wide)). says (doing wide q L .refusal) (doing wide q L .address) ∷ z) (t .answers);
       same = t .same ∙ d .same;
       here = t .here;
     }
@@ -178,7 +178,7 @@ bad-runs (q ∷ qs) b [] n o = absurd o
 bad-runs (q ∷ qs) b (r ∷ rs) n o =
     let e = bad-comes b q r n (o .0) in
     let m : Lent wide (r .heap) → ⊥ = subst (λ (x : Outcome). Lent wide (x .heap) → ⊥) (sym e) n in
-    ap₂ (λ (x : Outcome) (y : List (Answer wide)). says (x .refusal) (x .address) ∷ y) e (bad-runs qs (r .heap) rs m (o .1))
+    ap₂ (λ (x : Outcome) (y : List (Reply wide)). says (x .refusal) (x .address) ∷ y) e (bad-runs qs (r .heap) rs m (o .1))
 
 -- initialise and a run from any bytes that are not yet a heap
 module _ (b : List ℕ) (n : Opened wide b → ⊥) (qs : List Call) (r : Outcome) (rs : List Outcome) (c : Initialises wide b r) (o : Outcomes (r .heap) qs rs) where
@@ -190,7 +190,7 @@ module _ (b : List ℕ) (n : Opened wide b → ⊥) (qs : List Call) (r : Outcom
   given-bad m e =
       let i = c .one m in
       let j = bad-runs qs (r .heap) rs (subst (λ (x : Outcome). Lent wide (x .heap) → ⊥) (sym i) m) o in
-      rw e (ap₂ (λ (x : Outcome) (y : List (Answer wide)). says (x .refusal) (x .address) ∷ y) i j, tt)
+      rw e (ap₂ (λ (x : Outcome) (y : List (Reply wide)). says (x .refusal) (x .address) ∷ y) i j, tt)
 
   given-lent : Lent wide b → lends (length b) ≡ true → Given
   unfolding answered answersFrom pictureFrom heapThen
@@ -199,7 +199,7 @@ module _ (b : List ℕ) (n : Opened wide b → ⊥) (qs : List Call) (r : Outcom
       let g = opened-fresh eight b r c (ap (λ (x : Outcome). x .refusal) i) in
       let t = runs qs (r .heap) (opened (length b)) rs (omega (arith, g .same, l .0), omega (arith, g .same, l .1)) (g .here) o in
       rw e (
-        ap₂ (λ (x : ℕ) (y : ℕ). says x y ∷ answered rs) (ap (λ (x : Outcome). x .refusal) i) (ap (λ (x : Outcome). x .address) i) ∙ ap (λ (z : List (Answer wide)). says 0 0 ∷ z) (t .answers),
+        ap₂ (λ (x : ℕ) (y : ℕ). says x y ∷ answered rs) (ap (λ (x : Outcome). x .refusal) i) (ap (λ (x : Outcome). x .address) i) ∙ ap (λ (z : List (Reply wide)). says 0 0 ∷ z) (t .answers),
         subst (λ (x : ℕ). Shows 8 (heapThen (r .heap) rs) (words wide (endOf x) (layoutThen (opened (length b)) qs))) (t .same ∙ g .same) (t .here .shown),
       )
 

@@ -9,10 +9,10 @@ use Rattle.model.specs.Picture.{Word, Shows}
 use Rattle.model.specs.Shape.{wide}
 use Rattle.model.specs.Refusals.{noRoom}
 use Rattle.model.specs.Calls.{Outcome, Opened, Initialises, Allocates}
-use Rattle.model.specs.Promises.{Call, initialising, checking, allocating, freeing, resizing, Comes, Answer}
+use Rattle.model.specs.Promises.{Call, initialising, checking, allocating, freeing, resizing, Comes, Reply}
 
 -- an answer: a refusal and an address; a word: a position and its value
-abbrev pub says : ℕ → ℕ → Answer wide
+abbrev pub says : ℕ → ℕ → Reply wide
 says k a = record { refusal = k; address = a }
 
 abbrev pub word : ℕ → ℕ → Word
@@ -22,14 +22,14 @@ word p v = record { at = p; is = v }
 pub record Figure : Type 0 where
   pub bytes : ℕ
   pub calls : List Call
-  pub answers : List (Answer wide)
+  pub answers : List (Reply wide)
   pub words : List Word
   pub still : Bool
 
-abbrev pub figure : ℕ → List Call → List (Answer wide) → List Word → Figure
+abbrev pub figure : ℕ → List Call → List (Reply wide) → List Word → Figure
 figure n qs rs ws = record { bytes = n; calls = qs; answers = rs; words = ws; still = false }
 
-abbrev pub unchanged : ℕ → List Call → List (Answer wide) → List Word → Figure
+abbrev pub unchanged : ℕ → List Call → List (Reply wide) → List Word → Figure
 unchanged n qs rs ws = record { bytes = n; calls = qs; answers = rs; words = ws; still = true }
 
 -- document 01's list
@@ -86,7 +86,7 @@ heapBefore b [] = b
 heapBefore b (r ∷ []) = b
 heapBefore b (r ∷ t ∷ rs) = heapBefore (r .heap) (t ∷ rs)
 
-unfoldable pub answered : List Outcome → List (Answer wide)
+unfoldable pub answered : List Outcome → List (Reply wide)
 answered [] = []
 answered (r ∷ rs) = says (r .refusal) (r .address) ∷ answered rs
 

@@ -1,5 +1,6 @@
 // Statistics and the table of classes: each by one walk over the blocks, and over a page's items.
 use model::FREE;
+use model::MOST_CLASSES;
 use model::PAGE;
 use model::Position;
 use model::VARIABLE;
@@ -27,9 +28,6 @@ ghost use Rattle.model.specs.Layout.{Layout, Slot};
 ghost use Rattle.model.specs.Sound.{Here, Sound};
 ghost use Rattle.model.specs.Reading.{counted, rowsFrom};
 ghost use Rattle.reading.specs.Counting.{tableRows, heldFrom, AtPage, PageAt, PageTold, RowRoom, rowAnd, Going, told};
-
-// The rows of a table: as many as document 01's heap has classes.
-pub const ROWS: usize = 32;
 
 // What the blocks of a heap come to.
 pub struct Statistics {
@@ -165,12 +163,12 @@ fn with_page(row: [u64; 3], held: u64, idle: u64) -> [u64; 3]
 }
 
 // The table of classes of a sound heap: for each, its pages, its items in use and its free items. Rows of classes that there are not are 0.
-pub fn tabulate(w: usize, h: &[u8]) -> [[u64; 3]; ROWS]
+pub fn tabulate(w: usize, h: &[u8]) -> [[u64; 3]; MOST_CLASSES]
     requires { ⌜ Width w × Sound (shape w) (now h) ⌝ }
     ensures { λ r. ⌜ ((L : Layout) → Here (shape w) (now (h .entry)) L → r ≡ rowsFrom tableRows 0 (L .blocks)) ⌝ }
 {
     let end = end_of(h.len());
-    let mut rows = [[0u64; 3]; ROWS];
+    let mut rows = [[0u64; 3]; MOST_CLASSES];
     let mut p = start(w);
     while p.0 < end.0 {
         let t = word(w, h, p.0);

@@ -18,7 +18,7 @@ use Rattle.heap.specs.Counting.{toldCounted}
 use Rattle.heap.specs.declared.counting.Counted as heap-counted
 use Rattle.records.specs.declared.Line.{Line}
 use Rattle.records.specs.declared.Played.{Played}
-use Rattle.records.specs.Lines.{lineOf, Called, Opened, Allocated, Resized, Freed, Counted, noLine, clip, CallPlayed, Plays}
+use Rattle.records.specs.Lines.{lineOf, Called, OpensIn, AllocatesIn, ResizesIn, FreesIn, CountsIn, noLine, clip, CallPlayed, Plays}
 
 pub called : (allows : List ℕ → Outcome → Type 0) (b : List ℕ) (n : ℕ) (r : Answer) (l : Line) (ys : List ℕ) → allows (take (n - 0) b) (outcome r ys) → l ≡ lineOf r
     → Called (allows (take n b)) b n l (ys ++ drop (n - 0) b)
@@ -33,7 +33,7 @@ called allows b n r l ys a e =
 
 -- opening, by cases
 module _ (b : List ℕ) (lent n : ℕ) where
-  pub opens-beyond : length b < n → (l : Line) → l ≡ lineOf (Refused BadLength) → Opened b lent n (record { line = l; lent = lent }) b
+  pub opens-beyond : length b < n → (l : Line) → l ≡ lineOf (Refused BadLength) → OpensIn b lent n (record { line = l; lent = lent }) b
   opens-beyond h l e =
       record {
         beyond = λ _. (ap (λ (x : Line). record { line = x; lent = lent }) e, refl);
@@ -43,17 +43,17 @@ module _ (b : List ℕ) (lent n : ℕ) where
       }
 
   module _ (h : n ≤ length b) (r : Answer) (l : Line) (ys : List ℕ) (a : Initialises wide (take (n - 0) b) (outcome r ys)) (e : l ≡ lineOf r) where
-    pub opens-granted : l .refusal ≡ 0 → Opened b lent n (record { line = l; lent = n }) (ys ++ drop (n - 0) b)
+    pub opens-granted : l .refusal ≡ 0 → OpensIn b lent n (record { line = l; lent = n }) (ys ++ drop (n - 0) b)
     opens-granted z =
         record { beyond = λ k. absurd (omega arith); within = λ _. called (λ d o. Initialises wide d o) b n r l ys a e; granted = λ _ _. refl; refused = λ _ k. absurd (k z) }
 
-    pub opens-refused : (l .refusal ≡ 0 → ⊥) → Opened b lent n (record { line = l; lent = lent }) (ys ++ drop (n - 0) b)
+    pub opens-refused : (l .refusal ≡ 0 → ⊥) → OpensIn b lent n (record { line = l; lent = lent }) (ys ++ drop (n - 0) b)
     opens-refused z =
         record { beyond = λ k. absurd (omega arith); within = λ _. called (λ d o. Initialises wide d o) b n r l ys a e; granted = λ _ k. absurd (z k); refused = λ _ _. refl }
 
 -- the statistics, told as a line
 pub counts-line : (b : List ℕ) (n : ℕ) (r : heap-counted.Counted) → Counts wide (take (n - 0) b) (toldCounted r)
-    → Counted b n (record { refusal = r .refusal; numbers = r .statistics .«free_bytes» ∷ r .statistics .«free_blocks» ∷ r .statistics .«largest_free» ∷ r .statistics .variables ∷ r .statistics .pages ∷ r .statistics .items ∷ [] })
+    → CountsIn b n (record { refusal = r .refusal; numbers = r .statistics .«free_bytes» ∷ r .statistics .«free_blocks» ∷ r .statistics .«largest_free» ∷ r .statistics .variables ∷ r .statistics .pages ∷ r .statistics .items ∷ [] })
 counts-line b n r a =
     let z : n - 0 ≡ n = omega arith in
     let h : Counts wide (take n b) (toldCounted r) = rw z at a in
@@ -75,20 +75,20 @@ clip-within lent most n e = rw e (go (ltb most lent) refl)
 
 -- a record of each kind
 module _ {b : List ℕ} {n kind : ℕ} {body : List ℕ} {l : Line} {c : List ℕ} where
-  pub plays-allocate : kind ≡ 1 → (x : ℕ) → x ≡ wordAt 4 body 0 → Allocated b n x l c → CallPlayed b n kind body l c
+  pub plays-allocate : kind ≡ 1 → (x : ℕ) → x ≡ wordAt 4 body 0 → AllocatesIn b n x l c → CallPlayed b n kind body l c
   plays-allocate k x e h =
-      record { allocates = λ _. subst (λ y. Allocated b n y l c) e h; resizes = λ z. absurd (omega arith); frees = λ z. absurd (omega arith); counts = λ z. absurd (omega arith); unknown = λ z. absurd (omega arith) }
+      record { allocates = λ _. subst (λ y. AllocatesIn b n y l c) e h; resizes = λ z. absurd (omega arith); frees = λ z. absurd (omega arith); counts = λ z. absurd (omega arith); unknown = λ z. absurd (omega arith) }
 
-  pub plays-resize : kind ≡ 2 → (x y : ℕ) → x ≡ wordAt 4 body 0 → y ≡ wordAt 4 body 4 → Resized b n x y l c → CallPlayed b n kind body l c
+  pub plays-resize : kind ≡ 2 → (x y : ℕ) → x ≡ wordAt 4 body 0 → y ≡ wordAt 4 body 4 → ResizesIn b n x y l c → CallPlayed b n kind body l c
   plays-resize k x y e f h =
-      record { allocates = λ z. absurd (omega arith); resizes = λ _. subst (λ z. Resized b n (wordAt 4 body 0) z l c) f (subst (λ z. Resized b n z y l c) e h); frees = λ z. absurd (omega arith); counts = λ z. absurd (omega arith); unknown = λ z. absurd (omega arith) }
+      record { allocates = λ z. absurd (omega arith); resizes = λ _. subst (λ z. ResizesIn b n (wordAt 4 body 0) z l c) f (subst (λ z. ResizesIn b n z y l c) e h); frees = λ z. absurd (omega arith); counts = λ z. absurd (omega arith); unknown = λ z. absurd (omega arith) }
 
-  pub plays-free : kind ≡ 3 → (x : ℕ) → x ≡ wordAt 4 body 0 → Freed b n x l c → CallPlayed b n kind body l c
+  pub plays-free : kind ≡ 3 → (x : ℕ) → x ≡ wordAt 4 body 0 → FreesIn b n x l c → CallPlayed b n kind body l c
   plays-free k x e h =
-      record { allocates = λ z. absurd (omega arith); resizes = λ z. absurd (omega arith); frees = λ _. subst (λ y. Freed b n y l c) e h; counts = λ z. absurd (omega arith); unknown = λ z. absurd (omega arith) }
+      record { allocates = λ z. absurd (omega arith); resizes = λ z. absurd (omega arith); frees = λ _. subst (λ y. FreesIn b n y l c) e h; counts = λ z. absurd (omega arith); unknown = λ z. absurd (omega arith) }
 
 module _ {b : List ℕ} {n kind : ℕ} {body : List ℕ} {l : Line} where
-  pub plays-count : kind ≡ 4 → Counted b n l → CallPlayed b n kind body l b
+  pub plays-count : kind ≡ 4 → CountsIn b n l → CallPlayed b n kind body l b
   plays-count k h =
       record { allocates = λ z. absurd (omega arith); resizes = λ z. absurd (omega arith); frees = λ z. absurd (omega arith); counts = λ _. (h, refl); unknown = λ z. absurd (omega arith) }
 
@@ -98,9 +98,9 @@ module _ {b : List ℕ} {n kind : ℕ} {body : List ℕ} {l : Line} where
 
 -- a record of kind 0, and any other
 module _ {b : List ℕ} {lent kind : ℕ} {body c : List ℕ} where
-  pub plays-open : kind ≡ 0 → (r : Played) (x : ℕ) → x ≡ wordAt 4 body 0 → Opened b lent x r c → Plays b lent kind body r c
+  pub plays-open : kind ≡ 0 → (r : Played) (x : ℕ) → x ≡ wordAt 4 body 0 → OpensIn b lent x r c → Plays b lent kind body r c
   plays-open k r x e h =
-      record { opens = λ _. subst (λ y. Opened b lent y r c) e h; calls = λ z. absurd (omega arith); still = λ z. absurd (omega arith) }
+      record { opens = λ _. subst (λ y. OpensIn b lent y r c) e h; calls = λ z. absurd (omega arith); still = λ z. absurd (omega arith) }
 
   pub plays-call : (kind ≡ 0 → ⊥) → (n : ℕ) → n ≡ clip lent (length b) → (l : Line) → CallPlayed b n kind body l c → Plays b lent kind body (record { line = l; lent = lent }) c
   plays-call k n e l h =

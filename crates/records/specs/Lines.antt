@@ -29,24 +29,24 @@ pub record Called (allows : Outcome → Type 0) (b : List ℕ) (n : ℕ) (l : Li
   pub numbers : l .numbers ≡ outcome .address ∷ 0 ∷ 0 ∷ 0 ∷ 0 ∷ 0 ∷ []
   pub bytes : c ≡ outcome .heap ++ drop n b
 
-abbrev pub Allocated : List ℕ → ℕ → ℕ → Line → List ℕ → Type 0
-Allocated b n size l c = Called (Allocates wide (take n b) size) b n l c
+abbrev pub AllocatesIn : List ℕ → ℕ → ℕ → Line → List ℕ → Type 0
+AllocatesIn b n size l c = Called (Allocates wide (take n b) size) b n l c
 
-abbrev pub Freed : List ℕ → ℕ → ℕ → Line → List ℕ → Type 0
-Freed b n a l c = Called (Frees wide (take n b) a) b n l c
+abbrev pub FreesIn : List ℕ → ℕ → ℕ → Line → List ℕ → Type 0
+FreesIn b n a l c = Called (Frees wide (take n b) a) b n l c
 
-abbrev pub Resized : List ℕ → ℕ → ℕ → ℕ → Line → List ℕ → Type 0
-Resized b n a size l c = Called (Resizes wide (take n b) a size) b n l c
+abbrev pub ResizesIn : List ℕ → ℕ → ℕ → ℕ → Line → List ℕ → Type 0
+ResizesIn b n a size l c = Called (Resizes wide (take n b) a size) b n l c
 
 -- a line that tells the statistics of the heap that is the first n bytes of b
-pub record Counted (b : List ℕ) (n : ℕ) (l : Line) : Type 0 where
+pub record CountsIn (b : List ℕ) (n : ℕ) (l : Line) : Type 0 where
   pub answer : Told Statistics
   pub counts : Counts wide (take n b) answer
   pub refusal : l .refusal ≡ answer .refusal
   pub numbers : l .numbers ≡ answer .answer .freeBytes ∷ answer .answer .freeBlocks ∷ answer .answer .largestFree ∷ answer .answer .variables ∷ answer .answer .pages ∷ answer .answer .items ∷ []
 
 -- of opening a heap in the first n bytes: a length beyond the buffer answers 1; what is granted is the heap from then on
-pub record Opened (b : List ℕ) (lent n : ℕ) (r : Played) (c : List ℕ) : Type 0 where
+pub record OpensIn (b : List ℕ) (lent n : ℕ) (r : Played) (c : List ℕ) : Type 0 where
   pub beyond : length b < n → (r ≡ record { line = lineOf (Refused BadLength); lent = lent }) × (c ≡ b)
   pub within : n ≤ length b → Called (Initialises wide (take n b)) b n (r .line) c
   pub granted : n ≤ length b → r .line .refusal ≡ 0 → r .lent ≡ n
@@ -62,14 +62,14 @@ noLine = record { refusal = 0; numbers = 0 ∷ 0 ∷ 0 ∷ 0 ∷ 0 ∷ 0 ∷ [] 
 
 -- of a record of kind 1 to 4, with its body, on the heap that is the first n bytes
 pub record CallPlayed (b : List ℕ) (n kind : ℕ) (body : List ℕ) (l : Line) (c : List ℕ) : Type 0 where
-  pub allocates : kind ≡ 1 → Allocated b n (wordAt 4 body 0) l c
-  pub resizes : kind ≡ 2 → Resized b n (wordAt 4 body 0) (wordAt 4 body 4) l c
-  pub frees : kind ≡ 3 → Freed b n (wordAt 4 body 0) l c
-  pub counts : kind ≡ 4 → Counted b n l × (c ≡ b)
+  pub allocates : kind ≡ 1 → AllocatesIn b n (wordAt 4 body 0) l c
+  pub resizes : kind ≡ 2 → ResizesIn b n (wordAt 4 body 0) (wordAt 4 body 4) l c
+  pub frees : kind ≡ 3 → FreesIn b n (wordAt 4 body 0) l c
+  pub counts : kind ≡ 4 → CountsIn b n l × (c ≡ b)
   pub unknown : 4 < kind → (l ≡ noLine) × (c ≡ b)
 
 -- of any record: only kind 0 can change how much of the buffer is the heap
 pub record Plays (b : List ℕ) (lent kind : ℕ) (body : List ℕ) (r : Played) (c : List ℕ) : Type 0 where
-  pub opens : kind ≡ 0 → Opened b lent (wordAt 4 body 0) r c
+  pub opens : kind ≡ 0 → OpensIn b lent (wordAt 4 body 0) r c
   pub calls : 0 < kind → CallPlayed b (clip lent (length b)) kind body (r .line) c
   pub still : 0 < kind → r .lent ≡ lent

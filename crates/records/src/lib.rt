@@ -7,7 +7,7 @@ ghost use mathlib.Core.Path.{_≡_};
 ghost use Prim.Native.Nat.{_≤_, _<_};
 ghost use lib.ListN.{length};
 ghost use Rattle.words.specs.Word.{wordAt};
-ghost use Rattle.records.specs.Lines.{lineOf, Opened, Allocated, Freed, Resized, Counted, noLine, clip, CallPlayed, Plays};
+ghost use Rattle.records.specs.Lines.{lineOf, OpensIn, AllocatesIn, FreesIn, ResizesIn, CountsIn, noLine, clip, CallPlayed, Plays};
 
 // What a record prints behind its number: the refusal, and the address or the six statistics.
 pub struct Line {
@@ -34,7 +34,7 @@ fn told(r: Answer) -> Line
 // Allocates size bytes in the heap that is the first n bytes of the buffer.
 pub fn allocate(h: &mut [u8], n: usize, size: u64) -> Line
     requires { ⌜ n ≤ length (now h) ⌝ }
-    ensures { λ l. ⌜ Allocated (now (h .entry)) n size l (now (h .exit)) ⌝ }
+    ensures { λ l. ⌜ AllocatesIn (now (h .entry)) n size l (now (h .exit)) ⌝ }
 {
     let r = heap::allocate(&mut h[0..n], size as usize);
     told(r)
@@ -43,7 +43,7 @@ pub fn allocate(h: &mut [u8], n: usize, size: u64) -> Line
 // Gives the record at a back, in the same heap.
 pub fn free(h: &mut [u8], n: usize, a: u64) -> Line
     requires { ⌜ n ≤ length (now h) ⌝ }
-    ensures { λ l. ⌜ Freed (now (h .entry)) n a l (now (h .exit)) ⌝ }
+    ensures { λ l. ⌜ FreesIn (now (h .entry)) n a l (now (h .exit)) ⌝ }
 {
     let r = heap::free(&mut h[0..n], Address(a as usize));
     told(r)
@@ -52,7 +52,7 @@ pub fn free(h: &mut [u8], n: usize, a: u64) -> Line
 // Makes the record at a one of size bytes, there or elsewhere, in the same heap.
 pub fn resize(h: &mut [u8], n: usize, a: u64, size: u64) -> Line
     requires { ⌜ n ≤ length (now h) ⌝ }
-    ensures { λ l. ⌜ Resized (now (h .entry)) n a size l (now (h .exit)) ⌝ }
+    ensures { λ l. ⌜ ResizesIn (now (h .entry)) n a size l (now (h .exit)) ⌝ }
 {
     let r = heap::resize(&mut h[0..n], Address(a as usize), size as usize);
     told(r)
@@ -61,7 +61,7 @@ pub fn resize(h: &mut [u8], n: usize, a: u64, size: u64) -> Line
 // The statistics of the same heap.
 pub fn count(h: &[u8], n: usize) -> Line
     requires { ⌜ n ≤ length (now h) ⌝ }
-    ensures { λ l. ⌜ Counted (now (h .entry)) n l ⌝ }
+    ensures { λ l. ⌜ CountsIn (now (h .entry)) n l ⌝ }
 {
     let r = heap::statistics(&h[0..n]);
     let s = r.statistics;
@@ -86,7 +86,7 @@ pub struct Played {
 
 // Opens a heap in the first n bytes of the buffer: from then on these are the heap, or still the first `lent` where that is refused.
 pub fn open(h: &mut [u8], lent: usize, n: u64) -> Played
-    ensures { λ r. ⌜ Opened (now (h .entry)) lent n r (now (h .exit)) ⌝ }
+    ensures { λ r. ⌜ OpensIn (now (h .entry)) lent n r (now (h .exit)) ⌝ }
 {
     let length = n as usize;
     if h.len() < length {

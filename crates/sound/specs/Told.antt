@@ -7,7 +7,7 @@ use lib.ListN.{length}
 use Rattle.words.specs.Width.{Width}
 use Rattle.words.specs.Word.{wordAt}
 use Rattle.model.specs.Shape.{shape, index, start, leastFree, shortest, itemSize}
-use Rattle.model.specs.Parts.{dataAt, indexAt, firstFreeAt, endAt, indexTag, indexTagAt, indexFarTagAt}
+use Rattle.model.specs.Parts.{magicBytes, dataAt, indexAt, firstFreeAt, endAt, indexTag, indexTagAt, indexFarTagAt}
 use Rattle.model.specs.Sound.{idleSlots}
 use Rattle.sound.specs.Onward.{Items, UseAt, Onward, freeIn, freeItems}
 use Rattle.sound.specs.Maps.{Adds, Marked, NoMarks, mapEnd}
@@ -15,7 +15,7 @@ use Rattle.sound.specs.Lists.{ListCounted}
 
 -- the fixed words stand in the bytes
 pub record Fixed (w : ℕ) (b : List ℕ) (end : ℕ) : Type 0 where
-  pub magic : wordAt 8 b 0 ≡ shape w .magic
+  pub magic : wordAt magicBytes b 0 ≡ shape w .magic
   pub data-at : wordAt w b (dataAt (shape w)) ≡ start (shape w)
   pub index-at : wordAt w b (indexAt (shape w)) ≡ index (shape w)
   pub end-at : wordAt w b (endAt (shape w)) ≡ end

@@ -37,22 +37,22 @@ module _ (S : Shape) where
     pub answer : foundAt S (fit need (L .blocks)) ≡ foundFrom S p (fit need (free size ∷ rest))
 
   -- or it has come to the end of the list, and there is none
-  abbrev pub Walk : List ℕ → ℕ → Layout → ℕ → ℕ → Type 0
-  Walk b need L lo p = ((p ≡ 0) × (foundAt S (fit need (L .blocks)) ≡ 0)) ⊎ At b need L lo p
+  abbrev pub Seeking : List ℕ → ℕ → Layout → ℕ → ℕ → Type 0
+  Seeking b need L lo p = ((p ≡ 0) × (foundAt S (fit need (L .blocks)) ≡ 0)) ⊎ At b need L lo p
 
   found-after : (p : ℕ) (x : Block) (o : Option Spot) → foundFrom S p (after x o) ≡ foundFrom S (p + sizeOf S x) o
   unfolding ends
   found-after p x none = refl
   found-after p x (some t) = refl
 
-  pub lower : (b : List ℕ) (need : ℕ) (L : Layout) (lo lo′ p : ℕ) → lo′ ≤ lo → Walk b need L lo p → Walk b need L lo′ p
+  pub lower : (b : List ℕ) (need : ℕ) (L : Layout) (lo lo′ p : ℕ) → lo′ ≤ lo → Seeking b need L lo p → Seeking b need L lo′ p
   lower b need L lo lo′ p h (inl e) = inl e
   lower b need L lo lo′ p h (inr a) =
       inr (record { size = a .size; rest = a .rest; prev = a .prev; low = omega (arith, a .low); shown = a .shown; allowed = a .allowed; fills = a .fills; answer = a .answer })
 
   -- from any blocks the walk stands at their first free one
   pub skip : (b : List ℕ) (need : ℕ) (L : Layout) (p prev : ℕ) (bs : List Block) → Shows (S .word) b (blockWords S (L .lists) p prev 0 bs) → AllAllowed S bs → ends S p bs ≤ length b
-      → foundAt S (fit need (L .blocks)) ≡ foundFrom S p (fit need bs) → Walk b need L p (firstFree S p bs 0)
+      → foundAt S (fit need (L .blocks)) ≡ foundFrom S p (fit need bs) → Seeking b need L p (firstFree S p bs 0)
   unfolding firstFree fit ends AllAllowed blockWords own
   skip b need L p prev [] s h r e = inl (refl, e)
   skip b need L p prev (free t ∷ bs) s h r e = inr (record { size = t; rest = bs; prev = prev; low = omega arith; shown = s; allowed = h; fills = r; answer = e })
@@ -84,14 +84,14 @@ module _ (S : Shape) where
     hit h = a .answer ∙ rw (le-leb need (a .size) h)
 
     -- it is too small: the walk goes on
-    pub miss : a .size < need → Walk b need L (p + a .size) (firstFree S (p + a .size) (a .rest) 0)
+    pub miss : a .size < need → Seeking b need L (p + a .size) (firstFree S (p + a .size) (a .rest) 0)
     unfolding blockWords own ends AllAllowed sizeOf fit
     miss h =
         skip b need L (p + a .size) p (a .rest) (shows-right (S .word) b (own S (L .lists) p (a .prev) (firstFree S (p + a .size) (a .rest) 0) (free (a .size))) (blockWords S (L .lists) (p + a .size) p 0 (a .rest)) (a .shown))
         (a .allowed .1) (a .fills) (a .answer ∙ rw (lt-leb need (a .size) h) (found-after p (free (a .size)) (fit need (a .rest))))
 
   -- the walk begins at the first free block
-  pub begin : (b : List ℕ) (need : ℕ) (L : Layout) → Here S b L → Walk b need L (start S) (firstFree S (start S) (L .blocks) 0)
+  pub begin : (b : List ℕ) (need : ℕ) (L : Layout) → Here S b L → Seeking b need L (start S) (firstFree S (start S) (L .blocks) 0)
   unfolding words fixedLow Shows
   begin b need L h =
       skip b need L (start S) 0 (L .blocks)
@@ -103,17 +103,17 @@ module _ (S : Shape) where
   first-read b L h = h .shown .1 .1 .0
 
   -- the walk comes nearer its end
-  pub falls : (b : List ℕ) (need : ℕ) (L : Layout) (lo p p′ : ℕ) → (p ≡ 0 → ⊥) → p < lo → p < length b → Walk b need L lo p′ → left (length b) p′ < left (length b) p
+  pub falls : (b : List ℕ) (need : ℕ) (L : Layout) (lo p p′ : ℕ) → (p ≡ 0 → ⊥) → p < lo → p < length b → Seeking b need L lo p′ → left (length b) p′ < left (length b) p
   unfolding left
   falls b need L lo p p′ z h r (inl e) = rw (ne-eqb p 0 z, e .0) (omega arith)
   falls b need L lo p p′ z h r (inr a) = rw (ne-eqb p 0 z, ne-eqb p′ 0 (λ e. omega (arith, a .low))) (omega (arith, a .low, room b need L lo p′ a))
 
   -- where the walk is not at its end it stands at a free block
-  pub standing : (b : List ℕ) (need : ℕ) (L : Layout) (lo p : ℕ) → (p ≡ 0 → ⊥) → Walk b need L lo p → At b need L lo p
+  pub standing : (b : List ℕ) (need : ℕ) (L : Layout) (lo p : ℕ) → (p ≡ 0 → ⊥) → Seeking b need L lo p → At b need L lo p
   standing b need L lo p h (inl e) = absurd (h (e .0))
   standing b need L lo p h (inr a) = a
 
-  pub ended : (b : List ℕ) (need : ℕ) (L : Layout) (p : ℕ) → p ≡ 0 → Walk b need L (start S) p → foundAt S (fit need (L .blocks)) ≡ 0
+  pub ended : (b : List ℕ) (need : ℕ) (L : Layout) (p : ℕ) → p ≡ 0 → Seeking b need L (start S) p → foundAt S (fit need (L .blocks)) ≡ 0
   ended b need L p h (inl e) = e .1
   ended b need L p h (inr a) = absurd (omega (arith, a .low))
 

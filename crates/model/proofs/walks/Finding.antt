@@ -94,7 +94,7 @@ module _ (S : Shape) (good : Good S) where
       go nothing = refl
 
   -- a variable block that was found, among blocks from p on
-  pub record BlockFound (a p : ℕ) (bs : List Block) (t : Spot) : Type 0 where
+  pub record SpotFound (a p : ℕ) (bs : List Block) (t : Spot) : Type 0 where
     pub blocks : bs ≡ t .pre ++ ((used (variable (t .size)) ∷ []) ++ t .post)
     pub at : a ≡ addressOf S (ends S p (t .pre))
 
@@ -114,7 +114,7 @@ module _ (S : Shape) (good : Good S) where
   none-thing o c e = let z : _≡_ {A = ℕ} 0 1 = cc in omega arith
 
   -- with one block in front
-  block-behind : (a p : ℕ) (b : Block) (bs : List Block) (t : Spot) (f : Found) → ((u : Spot) → f ≡ block u → BlockFound a (p + sizeOf S b) bs u) → behind b f ≡ block t → BlockFound a p (b ∷ bs) t
+  block-behind : (a p : ℕ) (b : Block) (bs : List Block) (t : Spot) (f : Found) → ((u : Spot) → f ≡ block u → SpotFound a (p + sizeOf S b) bs u) → behind b f ≡ block t → SpotFound a p (b ∷ bs) t
   unfolding ends
   block-behind a p b bs t (block u) r e =
       let g = r u refl in
@@ -133,13 +133,13 @@ module _ (S : Shape) (good : Good S) where
       go true e r = not-block t (offsetOf S p) c e
       go false e r = r e
 
-  pub block-found : (a p : ℕ) (bs : List Block) (t : Spot) → findFrom S a p bs ≡ block t → BlockFound a p bs t
+  pub block-found : (a p : ℕ) (bs : List Block) (t : Spot) → findFrom S a p bs ≡ block t → SpotFound a p bs t
   unfolding findFrom ends sizeOf
   block-found a p [] t e = absurd (none-block t e)
   block-found a p (free s ∷ bs) t e = block-behind a p (free s) bs t (findFrom S a (p + s) bs) (λ u. block-found a (p + s) bs u) e
   block-found a p (used (variable s) ∷ bs) t e = go (ℕ-discrete a (addressOf S p)) (λ u. block-found a (p + s) bs u)
     where
-      go : Dec (a ≡ addressOf S p) → ((u : Spot) → findFrom S a (p + s) bs ≡ block u → BlockFound a (p + s) bs u) → BlockFound a p (used (variable s) ∷ bs) t
+      go : Dec (a ≡ addressOf S p) → ((u : Spot) → findFrom S a (p + s) bs ≡ block u → SpotFound a (p + s) bs u) → SpotFound a p (used (variable s) ∷ bs) t
       go (yes k) r =
           let f : block (record { pre = []; size = s; post = bs }) ≡ block t = rw (eq-eqb a (addressOf S p) k) at e in
           rw (← block-same (record { pre = []; size = s; post = bs }) t f) (record { blocks = refl; at = k })
@@ -147,7 +147,7 @@ module _ (S : Shape) (good : Good S) where
   block-found a p (used (page c k ss) ∷ bs) t e = go (inSlots S a c (p + S .word) ss) (slots-no-block a c (p + S .word) ss t) e (λ u. block-found a (p + useSize S (page c k ss)) bs u)
     where
       go : (f : Found) → (f ≡ block t → ⊥) → orElse f (behind (used (page c k ss)) (findFrom S a (p + useSize S (page c k ss)) bs)) ≡ block t
-          → ((u : Spot) → findFrom S a (p + useSize S (page c k ss)) bs ≡ block u → BlockFound a (p + useSize S (page c k ss)) bs u) → BlockFound a p (used (page c k ss) ∷ bs) t
+          → ((u : Spot) → findFrom S a (p + useSize S (page c k ss)) bs ≡ block u → SpotFound a (p + useSize S (page c k ss)) bs u) → SpotFound a p (used (page c k ss) ∷ bs) t
       go (block u) n e r = absurd (n e)
       go (thing o d) n e r = absurd (not-block t o d e)
       go nothing n e r = block-behind a p (used (page c k ss)) bs t (findFrom S a (p + useSize S (page c k ss)) bs) r e

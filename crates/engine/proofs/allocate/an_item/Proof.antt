@@ -3,7 +3,7 @@ use mathlib.Core.Path.{_≡_, sym, ap, _∙_}
 use Rattle.words.specs.Word.{wordAt}
 use native.Mathlib.Omega.{arith}
 use Rattle.model.specs.Shape.{shape, index, pageNeed}
-use Rattle.engine.proofs.Allocating.{Finds, finds-page, ready-long, spotted, has-item, item-given, no-item, page-none, made-item, page-given}
+use Rattle.engine.proofs.Allocating.{FindsFit, finds-page, ready-long, spotted, has-item, item-given, no-item, page-none, made-item, page-given}
 use borrow.Author.Needs.{needs}
 use Rattle.engine.proofs.allocate.an_item.Statement.{statement}
 use Rattle.engine.proofs.allocate.an_item.Tie as tie
@@ -24,7 +24,7 @@ head : (c : tie.After-word) → c .word .result ≡ wordAt (c .before .before .b
 head c = c .word .ensures ∙ ap (λ (x : ℕ). wordAt (c .before .before .before .before .args .w) (c .before .before .before .before .args .h .now) x) (c .before .head-at .ensures .0)
 
 -- where a page fits first
-found : (c : tie.After-find-fit) → Finds (c .before .before .before .before .before .before .before .before .args .w) (c .before .before .before .before .before .before .before .before .args .h .now) (pageNeed (shape (c .before .before .before .before .before .before .before .before .args .w)) (c .before .before .before .before .before .before .before .before .args .c)) (c .find-fit .result .0)
+found : (c : tie.After-find-fit) → FindsFit (c .before .before .before .before .before .before .before .before .args .w) (c .before .before .before .before .before .before .before .before .args .h .now) (pageNeed (shape (c .before .before .before .before .before .before .before .before .args .w)) (c .before .before .before .before .before .before .before .before .args .c)) (c .find-fit .result .0)
 found c = finds-page (c .before .page-need .result) (c .find-fit .result .0) (c .before .before .before .before .before .before .before .before .args .c) (c .before .page-need .ensures) (c .find-fit .ensures)
 
 word-requires : tie.Need-word-requires

@@ -5,7 +5,7 @@ use lib.ListN.{length}
 use Rattle.model.specs.Shape.{shape, start}
 use Rattle.model.specs.Layout.{Layout}
 use Rattle.model.specs.Sound.{Here}
-use Rattle.model.proofs.blocks.FreeWalk.{At, Walk, left, begin, first-read, falls, standing, ended, here-room, size-read, next-read, room, large, hit, miss, lower}
+use Rattle.model.proofs.blocks.FreeWalk.{At, Seeking, left, begin, first-read, falls, standing, ended, here-room, size-read, next-read, room, large, hit, miss, lower}
 use borrow.Author.Needs.{needs}
 use Rattle.engine.proofs.blocks.find_fit.Statement.{statement}
 use Rattle.engine.proofs.blocks.find_fit.Tie as tie
@@ -16,7 +16,7 @@ use Rattle.model.proofs.next_at.Reads as next-at-reads
 use Rattle.words.proofs.word.Reads as word-reads
 
 abbrev Inv-loop : tie.InvT-loop
-Inv-loop w h need p₀ p = (L : Layout) → Here (shape w) h L → Walk (shape w) h need L (start (shape w)) (p .0)
+Inv-loop w h need p₀ p = (L : Layout) → Here (shape w) h L → Seeking (shape w) h need L (start (shape w)) (p .0)
 
 abbrev μ-loop : tie.MeasureT-loop
 μ-loop w h need p₀ p = left (length h) (p .0)
@@ -63,7 +63,7 @@ word-requires-3 c κs = omega (arith, within (c .before .before .before))
 
 -- the walk after a turn
 goes : (c : tie.After-word3 Inv-loop μ-loop) (L : Layout) (h : Here (shape (c .before .before .before .before .before .before .before .before .before .before .args .w)) (c .before .before .before .before .before .before .before .before .before .before .args .h .now) L)
-    → Walk (shape (c .before .before .before .before .before .before .before .before .before .before .args .w)) (c .before .before .before .before .before .before .before .before .before .before .args .h .now) (c .before .before .before .before .before .before .before .before .before .before .args .need) L (c .before .before .before .before .before .before .loop .p .0 + stands (c .before .before .before .before) L h .size) (c .word3 .result)
+    → Seeking (shape (c .before .before .before .before .before .before .before .before .before .before .args .w)) (c .before .before .before .before .before .before .before .before .before .before .args .h .now) (c .before .before .before .before .before .before .before .before .before .before .args .need) L (c .before .before .before .before .before .before .loop .p .0 + stands (c .before .before .before .before) L h .size) (c .word3 .result)
 goes c L h =
     let d = c .before .before .before .before in
     let b = d .before .before .before .before .before .before .args .h .now in
