@@ -3,7 +3,8 @@ use Prim.Native.Nat.{ℕ, _+_, _-_}
 use mathlib.Core.Path.{_≡_, refl, sym, ap, _∙_}
 use mathlib.Core.List.{List, []}
 use native.Mathlib.Nat.{add-sub-cancel-left}
-use lib.ListN.{take, drop}
+use native.Mathlib.Omega.{arith}
+use lib.ListN.{length, take, drop, length-take, length-drop}
 use Rattle.model.specs.Shape.{wide}
 use Rattle.model.specs.Layout.{Layout}
 use Rattle.model.specs.Sound.{Here}
@@ -82,3 +83,10 @@ module _ {b : List ℕ} {a : ℕ} (r : Held) (t : HeldTold b a r) where
 
   pub part-some : PartTold b a (take (a + r .size - a) (drop a b))
   part-some = rw add-sub-cancel-left (checked-map (λ (n : ℕ). take n (drop a b)) (t .size))
+
+  -- a part that is not refused is not empty
+  pub part-full : (r .size ≡ 0 → ⊥) → length (take (a + r .size - a) (drop a b)) ≡ 0 → ⊥
+  part-full n e = n (sym long ∙ e)
+    where
+      long : length (take (a + r .size - a) (drop a b)) ≡ r .size
+      long = rw add-sub-cancel-left (simp (length-take, length-drop) (omega (arith, t .within n)))

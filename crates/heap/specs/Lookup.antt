@@ -18,11 +18,12 @@ PartTold b a r = Checked wide b (λ k. []) (λ L. lookedUp wide b a L) r
 abbrev pub RefusalTold : List ℕ → ℕ → ℕ → Type 0
 RefusalTold b a r = Checked wide b (λ k. k) (λ L. found wide (find wide a L) notLive 0) r
 
--- r is the payload at a: its bytes; and it is a part of h, and where it is not empty, it begins a bytes after the start of h and nowhere else
+-- r is the payload at a: its bytes; and it is a part of h, which begins a bytes after the start of h, or at the start of h where it is empty
 pub record Part (h : RefT (List ℕ)) (a : ℕ) (r : RefT (List ℕ)) : Type 0 where
   pub bytes : PartTold (now h) a (now r)
   pub same : ptr r .0 ≡ ptr h .0
   pub place : 0 < length (now r) → ptr r .1 ≡ a + ptr h .1
+  pub empty : length (now r) ≡ 0 → ptr r .1 ≡ ptr h .1
 
 -- how many bytes are live at a, and the refusal
 pub record HeldTold (b : List ℕ) (a : ℕ) (r : Held) : Type 0 where

@@ -124,30 +124,36 @@ module _ (S : Shape) where
     pub then : Here S (r .heap) L′
 
   -- allocate alters no payload, grants what was not live and holds n bytes, and makes nothing else live
-  abbrev pub AllocateKeeps : Type 0
-  AllocateKeeps =
-      (b : List ℕ) (n : ℕ) (r : Outcome) (L L′ : Layout) → Grants b (allocating n) r L L′
-      → ((x : Payload) → x ∈ live S L → Kept b (r .heap) L′ x × (x .address ≡ r .address → ⊥))
+  abbrev pub AllocateKept : List ℕ → ℕ → Layout → Outcome → Layout → Type 0
+  AllocateKept b n L r L′ =
+      ((x : Payload) → x ∈ live S L → Kept b (r .heap) L′ x × (x .address ≡ r .address → ⊥))
       × OnlyNew L L′ (r .address)
       × ((x : Payload) × (x ∈ live S L′) × (x .address ≡ r .address) × (n ≤ x .size))
 
+  abbrev pub AllocateKeeps : Type 0
+  AllocateKeeps = (b : List ℕ) (n : ℕ) (r : Outcome) (L L′ : Layout) → Grants b (allocating n) r L L′ → AllocateKept b n L r L′
+
   -- free alters no payload but its own, and makes that one dead and no other
-  abbrev pub FreeKeeps : Type 0
-  FreeKeeps =
-      (b : List ℕ) (a : ℕ) (r : Outcome) (L L′ : Layout) → Grants b (freeing a) r L L′
-      → ((x : Payload) → x ∈ live S L → (x .address ≡ a → ⊥) → Kept b (r .heap) L′ x)
+  abbrev pub FreeKept : List ℕ → ℕ → Layout → Outcome → Layout → Type 0
+  FreeKept b a L r L′ =
+      ((x : Payload) → x ∈ live S L → (x .address ≡ a → ⊥) → Kept b (r .heap) L′ x)
       × ((x : Payload) → x ∈ live S L′ → (x ∈ live S L) × (x .address ≡ a → ⊥))
 
+  abbrev pub FreeKeeps : Type 0
+  FreeKeeps = (b : List ℕ) (a : ℕ) (r : Outcome) (L L′ : Layout) → Grants b (freeing a) r L L′ → FreeKept b a L r L′
+
   -- resize alters no payload but its own, makes nothing else live, grants what holds n bytes, and keeps the common beginning; where the record moved, its old address is dead
-  abbrev pub ResizeKeeps : Type 0
-  ResizeKeeps =
-      (b : List ℕ) (a n : ℕ) (r : Outcome) (L L′ : Layout) → Grants b (resizing a n) r L L′
-      → ((x : Payload) → x ∈ live S L → (x .address ≡ a → ⊥) → Kept b (r .heap) L′ x)
+  abbrev pub ResizeKept : List ℕ → ℕ → ℕ → Layout → Outcome → Layout → Type 0
+  ResizeKept b a n L r L′ =
+      ((x : Payload) → x ∈ live S L → (x .address ≡ a → ⊥) → Kept b (r .heap) L′ x)
       × OnlyNew L L′ (r .address)
       × ((x : Payload) → x ∈ live S L → x .address ≡ a
       → ((y : Payload) × (y ∈ live S L′) × (y .address ≡ r .address) × (n ≤ y .size)
       × (take (min (x .size) n) (content (r .heap) y) ≡ take (min (x .size) n) (content b x))))
       × ((r .address ≡ a → ⊥) → (x : Payload) → x ∈ live S L′ → x .address ≡ a → ⊥)
+
+  abbrev pub ResizeKeeps : Type 0
+  ResizeKeeps = (b : List ℕ) (a n : ℕ) (r : Outcome) (L L′ : Layout) → Grants b (resizing a n) r L L′ → ResizeKept b a n L r L′
 
   -- "no room" exactly when there is no item and no block that fits
   abbrev pub NoBlock : ℕ → Layout → Type 0

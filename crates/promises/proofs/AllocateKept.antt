@@ -16,7 +16,7 @@ use Rattle.model.specs.Rules.{Made, allocate}
 use Rattle.model.specs.Live.{_∈_, Payload, live}
 use Rattle.model.specs.Refusals.{badSize, noRoom}
 use Rattle.model.specs.Calls.{Outcome, refused, granted, drawn, sized, allocated}
-use Rattle.model.specs.Promises.{Comes, Kept, OnlyNew, AllocateKeeps}
+use Rattle.model.specs.Promises.{AllocateKept, Comes, Kept, OnlyNew, AllocateKeeps}
 use Rattle.model.proofs.Good.{shape-good}
 use Rattle.model.proofs.lives.Payloads.{content-kept}
 use Rattle.model.proofs.rules.Allocation.{Granted, allocate-grants}
@@ -46,14 +46,7 @@ module _ {w : ℕ} (wd : Width w) where
           absurd (omega (arith, g, ap (λ (x : Outcome). x .refusal) f))
       go (yes i) (yes j) (some m) k = record { some-byte = i; made = m; found = k; is = rw (le-leb 1 n i, le-leb n (shape w .most) j, k) at e }
 
-  -- what is promised of an outcome and the layout then
-  abbrev AllocateKept : List ℕ → ℕ → Layout → Outcome → Layout → Type 0
-  AllocateKept b n L r M =
-      ((x : Payload) → x ∈ live (shape w) L → Kept (shape w) b (r .heap) M x × (x .address ≡ r .address → ⊥))
-      × OnlyNew (shape w) L M (r .address)
-      × ((x : Payload) × (x ∈ live (shape w) M) × (x .address ≡ r .address) × (n ≤ x .size))
-
-  granted-kept : (b : List ℕ) (n : ℕ) (L : Layout) (m : Made) → Granted (shape w) (endOf (length b)) n L m → AllocateKept b n L (granted (m .at) (drawn (shape w) (m .layout) b)) (m .layout)
+  granted-kept : (b : List ℕ) (n : ℕ) (L : Layout) (m : Made) → Granted (shape w) (endOf (length b)) n L m → AllocateKept (shape w) b n L (granted (m .at) (drawn (shape w) (m .layout) b)) (m .layout)
   granted-kept b n L m k = (
     (λ x h. ((k .adds .kept x h, content-kept (shape w) (endOf (length b)) (m .layout) b (k .valid) x (k .adds .kept x h)), λ e. k .adds .new x h (e ∙ sym (k .at)))),
     (λ x h. ⊎-elim (λ i. inl i) (λ e. inr (ap (λ (y : Payload). y .address) e ∙ k .at)) (k .adds .only x h)),
@@ -66,5 +59,5 @@ module _ {w : ℕ} (wd : Width w) where
       let a = made-of b n L r (g .comes .sound (g .lent) L (g .here)) (g .granted) in
       let k = allocate-grants (shape w) (endOf (length b)) n (shape-good wd) L (a .made) (g .here .valid) (a .some-byte) (a .found) in
       let h : Here (shape w) (r .heap) (a .made .layout) = subst (λ (o : Outcome). Here (shape w) (o .heap) (a .made .layout)) (sym (a .is)) (draws wd b L (g .lent) (g .here) (a .made .layout) (k .valid)) in
-      subst (λ (N : Layout). AllocateKept b n L r N) (one-layout wd (r .heap) (a .made .layout) M h (g .then))
-      (subst (λ (o : Outcome). AllocateKept b n L o (a .made .layout)) (sym (a .is)) (granted-kept b n L (a .made) k))
+      subst (λ (N : Layout). AllocateKept (shape w) b n L r N) (one-layout wd (r .heap) (a .made .layout) M h (g .then))
+      (subst (λ (o : Outcome). AllocateKept (shape w) b n L o (a .made .layout)) (sym (a .is)) (granted-kept b n L (a .made) k))

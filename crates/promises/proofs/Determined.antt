@@ -10,7 +10,7 @@ use Rattle.promises.proofs.Stable.{Stable, numbers, lists, outcomes, to
 use Rattle.promises.proofs.Cases.{checked-cases, opening-cases}
 
 module _ (S : Shape) (b : List ℕ) where
-  checked-one : {A : Type 0} → Stable A → (no-with : ℕ → A) (rule : Layout → A) (r r′ : A) → Checked S b no-with rule r → Checked S b no-with rule r′ → r ≡ r′
+  pub checked-one : {A : Type 0} → Stable A → (no-with : ℕ → A) (rule : Layout → A) (r r′ : A) → Checked S b no-with rule r → Checked S b no-with rule r′ → r ≡ r′
   checked-one s no-with rule r r′ c d =
       s r r′
       (checked-cases S b (λ m. c .one m ∙ sym (d .one m)) (λ l m. c .two l m ∙ sym (d .two l m)) (λ l o m. c .three l o m ∙ sym (d .three l o m)) (λ l L h. c .sound l L h ∙ sym (d .sound l L h)))

@@ -13,7 +13,7 @@ use Rattle.model.specs.Rules.{Found, block, thing, nothing, find, freed}
 use Rattle.model.specs.Live.{_∈_, Payload, live}
 use Rattle.model.specs.Refusals.{notLive}
 use Rattle.model.specs.Calls.{Outcome, refused, granted, drawn, found, without}
-use Rattle.model.specs.Promises.{Comes, Kept, FreeKeeps}
+use Rattle.model.specs.Promises.{FreeKept, Comes, Kept, FreeKeeps}
 use Rattle.model.proofs.Good.{shape-good}
 use Rattle.model.proofs.lives.Payloads.{content-kept}
 use Rattle.sound.proofs.OneLayout.{one-layout}
@@ -23,13 +23,7 @@ use Rattle.model.proofs.lives.FreeLives.{Removed, freed-removes}
 
 module _ {w : ℕ} (wd : Width w) where
   module _ (b : List ℕ) (a : ℕ) (L : Layout) where
-    -- what is promised of an outcome and the layout then
-    abbrev FreeKept : Outcome → Layout → Type 0
-    FreeKept r M =
-        ((x : Payload) → x ∈ live (shape w) L → (x .address ≡ a → ⊥) → Kept (shape w) b (r .heap) M x)
-        × ((x : Payload) → x ∈ live (shape w) M → (x ∈ live (shape w) L) × (x .address ≡ a → ⊥))
-
-    removed-kept : (f : Found) → Removed (shape w) (endOf (length b)) L a f → FreeKept (granted 0 (drawn (shape w) (freed (shape w) f L) b)) (freed (shape w) f L)
+    removed-kept : (f : Found) → Removed (shape w) (endOf (length b)) L a f → FreeKept (shape w) b a L (granted 0 (drawn (shape w) (freed (shape w) f L) b)) (freed (shape w) f L)
     removed-kept f k = (
       (λ x h n.
           let i : x ∈ live (shape w) (freed (shape w) f L) = ⊎-elim (λ j. j) (λ e. absurd (n (ap (λ (y : Payload). y .address) e ∙ k .at))) (k .adds .only x h) in
@@ -44,14 +38,14 @@ module _ {w : ℕ} (wd : Width w) where
       is : r ≡ found (shape w) (find (shape w) a L) (refused b notLive) (granted 0 (drawn (shape w) (without (shape w) a L) b))
       is = g .comes .sound (g .lent) L (g .here)
 
-      freed-kept : (f : Found) → find (shape w) a L ≡ f → (f ≡ nothing → ⊥) → r ≡ granted 0 (drawn (shape w) (freed (shape w) f L) b) → FreeKept b a L r M
+      freed-kept : (f : Found) → find (shape w) a L ≡ f → (f ≡ nothing → ⊥) → r ≡ granted 0 (drawn (shape w) (freed (shape w) f L) b) → FreeKept (shape w) b a L r M
       freed-kept f e n s =
           let k = freed-removes (shape w) (shape-good wd) (g .here .valid) a f e n in
           let h : Here (shape w) (r .heap) (freed (shape w) f L) = subst (λ (o : Outcome). Here (shape w) (o .heap) (freed (shape w) f L)) (sym s) (draws wd b L (g .lent) (g .here) (freed (shape w) f L) (k .valid)) in
-          subst (λ (N : Layout). FreeKept b a L r N) (one-layout wd (r .heap) (freed (shape w) f L) M h (g .then))
-          (subst (λ (o : Outcome). FreeKept b a L o (freed (shape w) f L)) (sym s) (removed-kept b a L f k))
+          subst (λ (N : Layout). FreeKept (shape w) b a L r N) (one-layout wd (r .heap) (freed (shape w) f L) M h (g .then))
+          (subst (λ (o : Outcome). FreeKept (shape w) b a L o (freed (shape w) f L)) (sym s) (removed-kept b a L f k))
 
-      go : (f : Found) → find (shape w) a L ≡ f → FreeKept b a L r M
+      go : (f : Found) → find (shape w) a L ≡ f → FreeKept (shape w) b a L r M
       go nothing e = absurd (omega (arith, g .granted, ap (λ (o : Outcome). o .refusal) is, ap (λ (f : Found). found (shape w) f (refused b notLive) (granted 0 (drawn (shape w) (without (shape w) a L) b)) .refusal) e))
       go (block t) e = freed-kept (block t) e (λ k. omega (arith, ap isThere k)) (rw e at is)
       go (thing o c) e = freed-kept (thing o c) e (λ k. omega (arith, ap isThere k)) (rw e at is)

@@ -18,5 +18,7 @@ pub mod NoRoomExact
 pub mod Longer
 pub mod Doing
 pub mod Promised
+pub mod OneResult
+pub mod AnswersPromised
 pub mod FiguresOfCalls
 pub mod Needed

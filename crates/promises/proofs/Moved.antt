@@ -17,7 +17,7 @@ use Rattle.model.specs.Sound.{Here}
 use Rattle.model.specs.Rules.{Made, Found, nothing, allocate, find, capacity}
 use Rattle.model.specs.Live.{_∈_, Payload, content, live}
 use Rattle.model.specs.Calls.{Outcome, granted, Lent, drawn, without}
-use Rattle.model.specs.Promises.{Kept, OnlyNew}
+use Rattle.model.specs.Promises.{ResizeKept, Kept, OnlyNew}
 use Rattle.model.proofs.Good.{shape-good}
 use Rattle.model.proofs.lives.Payloads.{in-area, content-kept}
 use Rattle.model.proofs.rules.Allocation.{Granted, allocate-grants}
@@ -29,16 +29,6 @@ use Rattle.promises.proofs.FoundLive.{is-there, found-size}
 use Rattle.promises.proofs.Parts.{take-take, part-moved}
 
 module _ {w : ℕ} (wd : Width w) where
-  -- what is promised of a resize, of an outcome and the layout then
-  abbrev pub ResizeKept : List ℕ → ℕ → ℕ → Layout → Outcome → Layout → Type 0
-  ResizeKept b a n L r M =
-      ((x : Payload) → x ∈ live (shape w) L → (x .address ≡ a → ⊥) → Kept (shape w) b (r .heap) M x)
-      × OnlyNew (shape w) L M (r .address)
-      × ((x : Payload) → x ∈ live (shape w) L → x .address ≡ a
-      → ((y : Payload) × (y ∈ live (shape w) M) × (y .address ≡ r .address) × (n ≤ y .size)
-      × (take (min (x .size) n) (content (r .heap) y) ≡ take (min (x .size) n) (content b x))))
-      × ((r .address ≡ a → ⊥) → (x : Payload) → x ∈ live (shape w) M → x .address ≡ a → ⊥)
-
   min-left : (m n : ℕ) → min m n ≤ m
   min-left m n = omega arith
 
@@ -157,7 +147,7 @@ module _ {w : ℕ} (wd : Width w) where
         ∙ sym (take-take (min (x .size) n) (x .size) (drop (x .address) grownBytes) (min-left (x .size) n))
         ∙ ap (λ (z : List ℕ). take (min (x .size) n) z) (content-kept (shape w) (endOf (length b)) K b (new .valid) x i)
 
-    pub moved-kept : ResizeKept b a n L (granted (m .at) (drawn (shape w) (without (shape w) a (m .layout)) copiedBytes)) (without (shape w) a (m .layout))
+    pub moved-kept : ResizeKept (shape w) b a n L (granted (m .at) (drawn (shape w) (without (shape w) a (m .layout)) copiedBytes)) (without (shape w) a (m .layout))
     moved-kept = (
       others-kept,
       (λ x k. ⊎-elim (λ i. inl i) (λ e. inr (ap (λ (y : Payload). y .address) e ∙ new .at)) (new .adds .only x (gone .adds .kept x k))),

@@ -16,7 +16,7 @@ use Rattle.model.specs.Sound.{Here}
 use Rattle.model.specs.Rules.{Made, Found, block, thing, nothing, allocate, find, capacity, stays}
 use Rattle.model.specs.Refusals.{badSize, notLive, noRoom}
 use Rattle.model.specs.Calls.{Outcome, refused, granted, Lent, drawn, found, without, resized, moved, Resizes}
-use Rattle.model.specs.Promises.{Comes, ResizeKeeps}
+use Rattle.model.specs.Promises.{ResizeKept, Comes, ResizeKeeps}
 use Rattle.model.proofs.Good.{shape-good}
 use Rattle.model.proofs.lives.Payloads.{content-kept}
 use Rattle.sound.proofs.OneLayout.{one-layout}
@@ -24,11 +24,11 @@ use Rattle.promises.proofs.Answers.{draws}
 use Rattle.model.proofs.lives.LiveFound.{isThere}
 use Rattle.model.proofs.lives.StayLives.{Stayed, stays-stayed}
 use Rattle.promises.proofs.Parts.{take-take}
-use Rattle.promises.proofs.Moved.{ResizeKept, moved-here, moved-kept}
+use Rattle.promises.proofs.Moved.{moved-here, moved-kept}
 
 module _ {w : ℕ} (wd : Width w) where
   -- in place
-  stayed-kept : (b : List ℕ) (a n : ℕ) (L M : Layout) → Stayed (shape w) n a L (endOf (length b)) M → ResizeKept wd b a n L (granted a (drawn (shape w) M b)) M
+  stayed-kept : (b : List ℕ) (a n : ℕ) (L M : Layout) → Stayed (shape w) n a L (endOf (length b)) M → ResizeKept (shape w) b a n L (granted a (drawn (shape w) M b)) M
   stayed-kept b a n L M s = (
     (λ x h o. (s .others x h o, content-kept (shape w) (endOf (length b)) M b (s .valid) x (s .others x h o))),
     s .only,
@@ -49,11 +49,11 @@ module _ {w : ℕ} (wd : Width w) where
   pub record ResizedTo (b : List ℕ) (a n : ℕ) (L : Layout) (r : Outcome) : Type 0 where
     pub layout : Layout
     pub here : Here (shape w) (r .heap) layout
-    pub kept : ResizeKept wd b a n L r layout
+    pub kept : ResizeKept (shape w) b a n L r layout
 
   module _ (b : List ℕ) (a n : ℕ) (L : Layout) (r : Outcome) (l : Lent (shape w) b) (h : Here (shape w) b L) (g : r .refusal ≡ 0) where
-    resized-as : (o : Outcome) (M : Layout) → r ≡ o → Here (shape w) (o .heap) M → ResizeKept wd b a n L o M → ResizedTo b a n L r
-    resized-as o M e k c = record { layout = M; here = subst (λ (x : Outcome). Here (shape w) (x .heap) M) (sym e) k; kept = subst (λ (x : Outcome). ResizeKept wd b a n L x M) (sym e) c }
+    resized-as : (o : Outcome) (M : Layout) → r ≡ o → Here (shape w) (o .heap) M → ResizeKept (shape w) b a n L o M → ResizedTo b a n L r
+    resized-as o M e k c = record { layout = M; here = subst (λ (x : Outcome). Here (shape w) (x .heap) M) (sym e) k; kept = subst (λ (x : Outcome). ResizeKept (shape w) b a n L x M) (sym e) c }
 
     not-refused : (k : ℕ) → 1 ≤ k → r ≡ refused b k → ⊥
     not-refused k i e = omega (arith, g, ap (λ (x : Outcome). x .refusal) e)
@@ -99,4 +99,4 @@ module _ {w : ℕ} (wd : Width w) where
   unfolding Comes
   resize-keeps b a n r L M g =
       let k = resize-result b a n L r (g .lent) (g .here) (g .granted) (g .comes) in
-      subst (λ (N : Layout). ResizeKept wd b a n L r N) (one-layout wd (r .heap) (k .layout) M (k .here) (g .then)) (k .kept)
+      subst (λ (N : Layout). ResizeKept (shape w) b a n L r N) (one-layout wd (r .heap) (k .layout) M (k .here) (g .then)) (k .kept)

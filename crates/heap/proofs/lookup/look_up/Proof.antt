@@ -1,4 +1,4 @@
-use Rattle.heap.proofs.Answering.{part-none, part-some}
+use Rattle.heap.proofs.Answering.{part-none, part-some, part-full}
 use native.Mathlib.Omega.{arith}
 use borrow.Author.Needs.{needs}
 use Rattle.heap.proofs.lookup.look_up.Statement.{statement}
@@ -20,7 +20,7 @@ part-result-end : tie.Need-part-result-end
 part-result-end c = search needs
 
 returns : tie.Need-returns
-returns c = record { bytes = part-none _ (c .before .before .held-at .ensures) (c .before .if1 .taken); same = search needs; place = λ z. omega arith }
+returns c = record { bytes = part-none _ (c .before .before .held-at .ensures) (c .before .if1 .taken); same = search needs; place = λ z. omega arith; empty = λ z. search needs }
 
 add-result : tie.Need-add-result
 add-result c = omega (arith, c .before .held-at .ensures .within (c .if1 .left))
@@ -35,7 +35,7 @@ part-result-end-2 : tie.Need-part-result-end-2
 part-result-end-2 c = omega (arith, c .before .held-at .ensures .within (c .if1 .left))
 
 returns-2 : tie.Need-returns-2
-returns-2 c = record { bytes = part-some _ (c .before .before .held-at .ensures); same = search needs; place = λ z. search needs }
+returns-2 c = record { bytes = part-some _ (c .before .before .held-at .ensures); same = search needs; place = λ z. search needs; empty = λ z. absurd (part-full _ (c .before .before .held-at .ensures) (c .before .if1 .left) z) }
 
 pub look-up-spec : {M : Type 1} → statement M
 look-up-spec =

@@ -1,0 +1,203 @@
+-- Any two results that a public contract allows are equal: the calls' own answers, the C numbers, the reading calls, and a call list's record.
+use Prim.Native.Nat.{ℕ, _+_, _≤_, _<_}
+use mathlib.Core.Path.{_≡_, refl, sym, ap, ap₂, _∙_}
+use mathlib.Core.Bool.{cond}
+use mathlib.Core.List.{List, [], _∷_, _++_}
+use native.Mathlib.Omega.{arith}
+use native.Mathlib.Decide.{ℕ-discrete, decLt}
+use denote.Ref.{RefT, now, ptr}
+use lib.ListN.{length, take, drop}
+use lib.Dec.{eqb}
+use Rattle.words.specs.Word.{wordAt}
+use Rattle.model.specs.Shape.{wide}
+use Rattle.model.specs.Reading as reading
+use Rattle.model.specs.Reading.{aFree, aVariable, aPage, theEnd}
+use Rattle.model.specs.Calls.{Outcome, Told, number, Initialises, Allocates, Frees, Resizes, Steps, Counts}
+use Rattle.model.specs.Promises.{Call, initialising, allocating, freeing, resizing, Comes}
+use Rattle.reading.specs.declared.stepping.Kind.{Kind}
+use Rattle.reading.specs.declared.stepping.Kind.the-variants.{Free, Variable, Page, End}
+use Rattle.reading.specs.Stepping.{toldKind}
+use Rattle.heap.specs.declared.Answer.{Answer}
+use Rattle.heap.specs.declared.Answer.the-variants.{Granted, Refused}
+use Rattle.heap.specs.declared.Refusal.{Refusal}
+use Rattle.heap.specs.declared.Refusal.the-variants.{BadLength, NotOpened, NotSound, BadSize, NotLive, NoRoom, AlreadyOpened}
+use Rattle.heap.specs.declared.counting.Counted.{Counted}
+use Rattle.heap.specs.declared.walking.Step.{Step}
+use Rattle.heap.specs.Answers.{outcome, refusalNumber}
+use Rattle.heap.specs.Counting.{toldCounted, TableTold}
+use Rattle.heap.specs.Walking.{toldStep}
+use Rattle.heap.specs.Lookup.{Part, RefusalTold}
+use Rattle.host.specs.Numbers.{Numbered}
+use Rattle.records.specs.declared.Line.{Line}
+use Rattle.records.specs.declared.Played.{Played}
+use Rattle.records.specs.Lines.{Called, CountsIn, OpensIn, CallPlayed, Plays, noLine, clip}
+use Rattle.promises.specs.Answered.{MayAnswer, OneResult}
+use Rattle.promises.proofs.Stable.{numbers, lists, tolds, steps, statistics}
+use Rattle.promises.proofs.Determined.{checked-one, determined}
+
+-- a refusal by its number
+refusalOf : ℕ → Refusal
+refusalOf n =
+    cond (eqb n 1) BadLength
+    (cond (eqb n 2) NotOpened
+    (cond (eqb n 3) NotSound
+    (cond (eqb n 4) BadSize
+    (cond (eqb n 5) NotLive
+    (cond (eqb n 6) NoRoom AlreadyOpened)))))
+
+refusal-back : (k : Refusal) → refusalOf (refusalNumber k) ≡ k
+unfolding refusalOf
+refusal-back BadLength = refl
+refusal-back NotOpened = refl
+refusal-back NotSound = refl
+refusal-back BadSize = refl
+refusal-back NotLive = refl
+refusal-back NoRoom = refl
+refusal-back AlreadyOpened = refl
+
+pub refusal-one : (k j : Refusal) → refusalNumber k ≡ refusalNumber j → k ≡ j
+refusal-one k j e = sym (refusal-back k) ∙ ap refusalOf e ∙ refusal-back j
+
+pub refusal-some : (k : Refusal) → 1 ≤ refusalNumber k
+refusal-some BadLength = omega arith
+refusal-some NotOpened = omega arith
+refusal-some NotSound = omega arith
+refusal-some BadSize = omega arith
+refusal-some NotLive = omega arith
+refusal-some NoRoom = omega arith
+refusal-some AlreadyOpened = omega arith
+
+-- what an answer means is one to one
+pub outcome-one : (r r′ : Answer) (c c′ : List ℕ) → outcome r c ≡ outcome r′ c′ → (r ≡ r′) × (c ≡ c′)
+outcome-one (Granted a) (Granted x) c c′ e = (ap (λ (o : Outcome). Granted (record { 0 = o .address })) e, ap (λ (o : Outcome). o .heap) e)
+outcome-one (Granted a) (Refused k) c c′ e = absurd (omega (arith, refusal-some k, ap (λ (o : Outcome). o .refusal) e))
+outcome-one (Refused k) (Granted a) c c′ e = absurd (omega (arith, refusal-some k, ap (λ (o : Outcome). o .refusal) e))
+outcome-one (Refused k) (Refused j) c c′ e = (ap (λ (z : Refusal). Refused z) (refusal-one k j (ap (λ (o : Outcome). o .refusal) e)), ap (λ (o : Outcome). o .heap) e)
+
+-- a step by what it tells
+kindBack : reading.Kind → Kind
+kindBack (aFree next previous) = Free (record { 0 = next }) (record { 0 = previous })
+kindBack aVariable = Variable
+kindBack (aPage c) = Page c
+kindBack theEnd = End
+
+kind-back : (k : Kind) → kindBack (toldKind k) ≡ k
+unfolding kindBack
+kind-back (Free next previous) = refl
+kind-back Variable = refl
+kind-back (Page c) = refl
+kind-back End = refl
+
+abbrev stepBack : Told reading.Step → Step
+stepBack t =
+    record {
+      block = record { position = record { 0 = t .answer .position }; size = t .answer .size; kind = kindBack (t .answer .kind) };
+      walk = record { at = record { 0 = t .answer .next } };
+      refusal = t .refusal;
+    }
+
+step-back : (r : Step) → stepBack (toldStep r) ≡ r
+step-back r = ap (λ (k : Kind). record { block = record { position = r .block .position; size = r .block .size; kind = k }; walk = r .walk; refusal = r .refusal }) (kind-back (r .block .kind))
+
+-- the statistics by what they tell
+abbrev countedBack : Told reading.Statistics → Counted
+countedBack t =
+    record {
+      statistics = record {
+        «free_bytes» = t .answer .freeBytes;
+        «free_blocks» = t .answer .freeBlocks;
+        «largest_free» = t .answer .largestFree;
+        variables = t .answer .variables;
+        pages = t .answer .pages;
+        items = t .answer .items;
+      };
+      refusal = t .refusal;
+    }
+
+-- two parts of one heap with the same bytes begin at one place
+part-one : (h : RefT (List ℕ)) (a : ℕ) (r r′ : RefT (List ℕ)) → Part h a r → Part h a r′ → now r ≡ now r′ → ptr r .1 ≡ ptr r′ .1
+part-one h a r r′ p q e = go (ℕ-discrete (length (now r)) 0)
+  where
+    long : length (now r) ≡ length (now r′)
+    long = ap length e
+
+    go : Dec (length (now r) ≡ 0) → ptr r .1 ≡ ptr r′ .1
+    go (yes z) = p .empty z ∙ sym (q .empty (sym long ∙ z))
+    go (no z) = p .place (omega (arith, z)) ∙ sym (q .place (omega (arith, z, long)))
+
+-- two lines and buffers that a call of a list may give
+called-one : (allows : Outcome → Type 0) → ((o o′ : Outcome) → allows o → allows o′ → o ≡ o′) → (b : List ℕ) (n : ℕ) (l l′ : Line) (c c′ : List ℕ) → Called allows b n l c → Called allows b n l′ c′ → (l ≡ l′) × (c ≡ c′)
+called-one allows one b n l l′ c c′ x y =
+    let e : x .outcome ≡ y .outcome = one (x .outcome) (y .outcome) (x .allowed) (y .allowed) in (
+      ap₂ (λ (k : ℕ) (v : List ℕ). record { refusal = k; numbers = v })
+      (x .refusal ∙ ap (λ (o : Outcome). o .refusal) e ∙ sym (y .refusal))
+      (x .numbers ∙ ap (λ (o : Outcome). o .address ∷ 0 ∷ 0 ∷ 0 ∷ 0 ∷ 0 ∷ []) e ∙ sym (y .numbers)),
+      x .bytes ∙ ap (λ (o : Outcome). o .heap ++ drop n b) e ∙ sym (y .bytes),
+    )
+
+counts-one : (b : List ℕ) (n : ℕ) (l l′ : Line) → CountsIn b n l → CountsIn b n l′ → l ≡ l′
+counts-one b n l l′ x y =
+    let e : x .answer ≡ y .answer = checked-one wide (take n b) (tolds statistics) _ _ (x .answer) (y .answer) (x .counts) (y .counts) in
+    ap₂ (λ (k : ℕ) (v : List ℕ). record { refusal = k; numbers = v })
+    (x .refusal ∙ ap (λ (o : Told reading.Statistics). o .refusal) e ∙ sym (y .refusal))
+    (x .numbers
+    ∙ ap (λ (o : Told reading.Statistics). o .answer .freeBytes ∷ o .answer .freeBlocks ∷ o .answer .largestFree ∷ o .answer .variables ∷ o .answer .pages ∷ o .answer .items ∷ []) e
+    ∙ sym (y .numbers))
+
+above-four : (k : ℕ) → 0 < k → (k ≡ 1 → ⊥) → (k ≡ 2 → ⊥) → (k ≡ 3 → ⊥) → (k ≡ 4 → ⊥) → 4 < k
+above-four k a b c d e = omega arith
+
+call-one : (b : List ℕ) (n kind : ℕ) (body : List ℕ) (l l′ : Line) (c c′ : List ℕ) → 0 < kind → CallPlayed b n kind body l c → CallPlayed b n kind body l′ c′ → (l ≡ l′) × (c ≡ c′)
+unfolding Comes
+call-one b n kind body l l′ c c′ some-kind x y = go (ℕ-discrete kind 1) (ℕ-discrete kind 2) (ℕ-discrete kind 3) (ℕ-discrete kind 4)
+  where
+    go : Dec (kind ≡ 1) → Dec (kind ≡ 2) → Dec (kind ≡ 3) → Dec (kind ≡ 4) → (l ≡ l′) × (c ≡ c′)
+    go (yes e) k m o = called-one (Allocates wide (take n b) (wordAt 4 body 0)) (determined wide (take n b) (allocating (wordAt 4 body 0))) b n l l′ c c′ (x .allocates e) (y .allocates e)
+    go (no d) (yes e) m o = called-one (Resizes wide (take n b) (wordAt 4 body 0) (wordAt 4 body 4)) (determined wide (take n b) (resizing (wordAt 4 body 0) (wordAt 4 body 4))) b n l l′ c c′ (x .resizes e) (y .resizes e)
+    go (no d) (no k) (yes e) o = called-one (Frees wide (take n b) (wordAt 4 body 0)) (determined wide (take n b) (freeing (wordAt 4 body 0))) b n l l′ c c′ (x .frees e) (y .frees e)
+    go (no d) (no k) (no m) (yes e) = (counts-one b n l l′ (x .counts e .0) (y .counts e .0), x .counts e .1 ∙ sym (y .counts e .1))
+    go (no d) (no k) (no m) (no o) =
+        let z = above-four kind some-kind d k m o in
+        (x .unknown z .0 ∙ sym (y .unknown z .0), x .unknown z .1 ∙ sym (y .unknown z .1))
+
+opens-one : (b : List ℕ) (lent n : ℕ) (r r′ : Played) (c c′ : List ℕ) → OpensIn b lent n r c → OpensIn b lent n r′ c′ → (r ≡ r′) × (c ≡ c′)
+unfolding Comes
+opens-one b lent n r r′ c c′ x y = go (decLt (length b) n)
+  where
+    go : Dec (length b < n) → (r ≡ r′) × (c ≡ c′)
+    go (yes l) = (x .beyond l .0 ∙ sym (y .beyond l .0), x .beyond l .1 ∙ sym (y .beyond l .1))
+    go (no l) =
+        let m : n ≤ length b = omega (arith, l) in
+        let e = called-one (Initialises wide (take n b)) (determined wide (take n b) initialising) b n (r .line) (r′ .line) c c′ (x .within m) (y .within m) in
+        (ap₂ (λ (z : Line) (k : ℕ). record { line = z; lent = k }) (e .0) (kept m (e .0) (ℕ-discrete (r .line .refusal) 0)), e .1)
+      where
+        kept : n ≤ length b → r .line ≡ r′ .line → Dec (r .line .refusal ≡ 0) → r .lent ≡ r′ .lent
+        kept m e (yes z) = x .granted m z ∙ sym (y .granted m (sym (ap (λ (v : Line). v .refusal) e) ∙ z))
+        kept m e (no z) = x .refused m z ∙ sym (y .refused m (λ k. z (ap (λ (v : Line). v .refusal) e ∙ k)))
+
+plays-one : (b : List ℕ) (lent kind : ℕ) (body : List ℕ) (r r′ : Played) (c c′ : List ℕ) → Plays b lent kind body r c → Plays b lent kind body r′ c′ → (r ≡ r′) × (c ≡ c′)
+plays-one b lent kind body r r′ c c′ x y = go (ℕ-discrete kind 0)
+  where
+    go : Dec (kind ≡ 0) → (r ≡ r′) × (c ≡ c′)
+    go (yes e) = opens-one b lent (wordAt 4 body 0) r r′ c c′ (x .opens e) (y .opens e)
+    go (no n) =
+        let z : 0 < kind = omega (arith, n) in
+        let e = call-one b (clip lent (length b)) kind body (r .line) (r′ .line) c c′ z (x .calls z) (y .calls z) in
+        (ap₂ (λ (v : Line) (k : ℕ). record { line = v; lent = k }) (e .0) (x .still z ∙ sym (y .still z)), e .1)
+
+pub one-result : OneResult
+one-result =
+    record {
+      answers = λ b q r r′ c c′ x y. outcome-one r r′ c c′ (determined wide b q (outcome r c) (outcome r′ c′) x y);
+      numbers = λ b q n n′ c c′ x y.
+          let e : x .outcome ≡ y .outcome = determined wide b q (x .outcome) (y .outcome) (x .allowed) (y .allowed) in
+          (x .number ∙ ap number e ∙ sym (y .number), x .heap ∙ ap (λ (o : Outcome). o .heap) e ∙ sym (y .heap));
+      look-ups = λ h a r r′ x y.
+          let e : now r ≡ now r′ = checked-one wide (now h) (lists numbers) _ _ (now r) (now r′) (x .bytes) (y .bytes) in
+          (e, ap₂ (λ (i j : ℕ). (i, j)) (x .same ∙ sym (y .same)) (part-one h a r r′ x y e));
+      look-up-refusals = λ b a k k′ x y. checked-one wide b numbers _ _ k k′ x y;
+      statistics = λ b r r′ x y. ap countedBack (checked-one wide b (tolds statistics) _ _ (toldCounted r) (toldCounted r′) x y);
+      tables = λ b t t′ x y. checked-one wide b (lists (lists numbers)) _ _ t t′ x y;
+      steps = λ b at r r′ x y. sym (step-back r) ∙ ap stepBack (checked-one wide b (tolds steps) _ _ (toldStep r) (toldStep r′) x y) ∙ step-back r′;
+      plays = plays-one;
+    }

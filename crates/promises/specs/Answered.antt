@@ -1,0 +1,70 @@
+-- The demands of what the public calls themselves answer: the enum of crate `heap`, through the definition of what it means; the C numbers; the reading calls; a call list's record.
+use Prim.Native.Nat.{ℕ, _≤_}
+use mathlib.Core.Path.{_≡_}
+use mathlib.Core.Logic.{_↔_}
+use mathlib.Core.List.{List}
+use mathlib.Core.Option.{none}
+use denote.Ref.{RefT, now, ptr}
+use Rattle.model.specs.Shape.{wide}
+use Rattle.model.specs.Layout.{Layout}
+use Rattle.model.specs.Sound.{Here, Sound}
+use Rattle.model.specs.Rules.{find, stays}
+use Rattle.model.specs.Live.{_∈_, Payload, live}
+use Rattle.model.specs.Walking.{column}
+use Rattle.model.specs.Calls.{Lent, granted, Steps, Counts}
+use Rattle.model.specs.Promises.{Call, initialising, checking, allocating, freeing, resizing, numbersOf, Comes, AllocateKept, FreeKept, ResizeKept, NoRoom}
+use Rattle.model.specs.declared.Address.{Address}
+use Rattle.heap.specs.declared.Answer.{Answer}
+use Rattle.heap.specs.declared.Answer.the-variants.{Granted, Refused}
+use Rattle.heap.specs.declared.Refusal.{Refusal}
+use Rattle.heap.specs.declared.Refusal.the-variants as why
+use Rattle.heap.specs.declared.counting.Counted.{Counted}
+use Rattle.heap.specs.declared.walking.Step.{Step}
+use Rattle.heap.specs.Answers.{outcome}
+use Rattle.heap.specs.Counting.{toldCounted, TableTold}
+use Rattle.heap.specs.Walking.{toldStep}
+use Rattle.heap.specs.Lookup.{Part, RefusalTold}
+use Rattle.host.specs.Numbers.{Numbered}
+use Rattle.records.specs.declared.Played.{Played}
+use Rattle.records.specs.Lines.{Plays}
+
+-- the contract of a call of `heap`, as it stands in the source: on bytes b it may answer r and leave c
+abbrev pub MayAnswer : List ℕ → Call → Answer → List ℕ → Type 0
+MayAnswer b q r c = Comes wide b q (outcome r c)
+
+-- Any two results that a public contract allows are equal
+pub record OneResult : Type 0 where
+  pub answers : (b : List ℕ) (q : Call) (r r′ : Answer) (c c′ : List ℕ) → MayAnswer b q r c → MayAnswer b q r′ c′ → (r ≡ r′) × (c ≡ c′)
+  pub numbers : (b : List ℕ) (q : Call) (n n′ : ℕ) (c c′ : List ℕ) → Numbered (Comes wide b q) n c → Numbered (Comes wide b q) n′ c′ → (n ≡ n′) × (c ≡ c′)
+  pub look-ups : (h : RefT (List ℕ)) (a : ℕ) (r r′ : RefT (List ℕ)) → Part h a r → Part h a r′ → (now r ≡ now r′) × (ptr r ≡ ptr r′)
+  pub look-up-refusals : (b : List ℕ) (a k k′ : ℕ) → RefusalTold b a k → RefusalTold b a k′ → k ≡ k′
+  pub statistics : (b : List ℕ) (r r′ : Counted) → Counts wide b (toldCounted r) → Counts wide b (toldCounted r′) → r ≡ r′
+  pub tables : (b : List ℕ) (t t′ : List (List ℕ)) → TableTold b t → TableTold b t′ → t ≡ t′
+  pub steps : (b : List ℕ) (at : ℕ) (r r′ : Step) → Steps wide b at (toldStep r) → Steps wide b at (toldStep r′) → r ≡ r′
+  pub plays : (b : List ℕ) (lent kind : ℕ) (body : List ℕ) (r r′ : Played) (c c′ : List ℕ) → Plays b lent kind body r c → Plays b lent kind body r′ c′ → (r ≡ r′) × (c ≡ c′)
+
+-- Demands 1 and 2 of what the calls answer
+pub record AnswersPromised : Type 0 where
+  -- a refusal leaves every byte as it was, and a call gives none but its numbers
+  pub refused-untouched : (b : List ℕ) (q : Call) (k : Refusal) (c : List ℕ) → MayAnswer b q (Refused k) c → c ≡ b
+  pub answers-only : (b : List ℕ) (q : Call) (r : Answer) (c : List ℕ) → MayAnswer b q r c → outcome r c .refusal ∈ numbersOf q
+  -- the check accepts exactly the sound heaps; no call makes a sound heap unsound; an opened heap is sound
+  pub accepts-exactly : (b : List ℕ) (r : Answer) (c : List ℕ) → MayAnswer b checking r c → ((a : Address) × (r ≡ Granted a)) ↔ (Lent wide b × Sound wide b)
+  pub stays-sound : (b : List ℕ) (q : Call) (r : Answer) (c : List ℕ) → MayAnswer b q r c → Sound wide b → Sound wide c
+  pub opens-sound : (b : List ℕ) (a : Address) (c : List ℕ) → MayAnswer b initialising (Granted a) c → Sound wide c
+  -- what a granted call keeps
+  pub allocate-keeps : (b : List ℕ) (n : ℕ) (a : Address) (c : List ℕ) (L L′ : Layout) → Lent wide b → Here wide b L → MayAnswer b (allocating n) (Granted a) c → Here wide c L′
+      → AllocateKept wide b n L (granted (a .0) c) L′
+  pub free-keeps : (b : List ℕ) (a : ℕ) (x : Address) (c : List ℕ) (L L′ : Layout) → Lent wide b → Here wide b L → MayAnswer b (freeing a) (Granted x) c → Here wide c L′
+      → FreeKept wide b a L (granted (x .0) c) L′
+  pub resize-keeps : (b : List ℕ) (a n : ℕ) (x : Address) (c : List ℕ) (L L′ : Layout) → Lent wide b → Here wide b L → MayAnswer b (resizing a n) (Granted x) c → Here wide c L′
+      → ResizeKept wide b a n L (granted (x .0) c) L′
+  -- 6 exactly where the rule finds nothing, and 5 exactly where nothing is live
+  pub no-room-exactly : (b : List ℕ) (n : ℕ) (r : Answer) (c : List ℕ) (L : Layout) → Lent wide b → Here wide b L → 1 ≤ n → n ≤ wide .most
+      → (MayAnswer b (allocating n) r c → (r ≡ Refused why.NoRoom) ↔ NoRoom wide n L)
+      × ((a : ℕ) (x : Payload) → x ∈ live wide L → x .address ≡ a → MayAnswer b (resizing a n) r c → (r ≡ Refused why.NoRoom) ↔ ((stays wide n (find wide a L) L ≡ none) × NoRoom wide n L))
+  pub not-live-exactly : (b : List ℕ) (a : ℕ) (r : Answer) (c : List ℕ) (L : Layout) → Lent wide b → Here wide b L
+      → MayAnswer b (freeing a) r c → (r ≡ Refused why.NotLive) ↔ ((x : Payload) → x ∈ live wide L → x .address ≡ a → ⊥)
+  -- the table's columns add up to the statistics of the same heap
+  pub columns-add : (b : List ℕ) (r : Counted) (t : List (List ℕ)) → Counts wide b (toldCounted r) → TableTold b t
+      → (column 0 t ≡ r .statistics .pages) × (column 1 t ≡ r .statistics .items)
