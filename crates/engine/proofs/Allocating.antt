@@ -7,8 +7,7 @@ use native.Mathlib.Omega.{arith}
 use lib.ListN.{length, getD}
 use lib.Seq.{getD-set-same}
 use borrow.Author.Tests.{le-leb, lt-leb}
-use Rattle.words.specs.Word.{wordAt}
-use Rattle.words.proofs.WordLaws.{Bytes}
+use Rattle.words.specs.Word.{wordAt, Bytes}
 use Rattle.model.specs.declared.Address.{Address}
 use Rattle.model.specs.Shape.{shape, endOf, classOf, needOf, pageNeed, index, start, largestItem, addressOf}
 use Rattle.model.specs.Parts.{headAt}

@@ -5,8 +5,7 @@ use mathlib.Core.List.{List, []}
 use native.Mathlib.Omega.{arith}
 use lib.ListN.{length, getD}
 use Rattle.words.specs.Width.{Width}
-use Rattle.words.specs.Word.{wordAt, put}
-use Rattle.words.proofs.WordLaws.{Bytes}
+use Rattle.words.specs.Word.{wordAt, put, Bytes}
 use Rattle.model.specs.Shape.{shape, offsetOf, endOf, index, start}
 use Rattle.model.specs.Parts.{freeHeader, headAt}
 use Rattle.model.specs.Layout.{Layout, headOf}

@@ -4,8 +4,8 @@ use mathlib.Core.Path.{_≡_, sym, ap, _∙_}
 use mathlib.Core.List.{List, [], _∷_}
 use native.Mathlib.Omega.{arith}
 use lib.ListN.{length, getD}
-use Rattle.words.specs.Word.{wordAt, put}
-use Rattle.words.proofs.WordLaws.{Bytes, word-fits}
+use Rattle.words.specs.Word.{wordAt, put, Bytes}
+use Rattle.words.proofs.WordLaws.{word-fits}
 use Rattle.model.specs.Shape.{shape, index, start, addressOf, itemAt}
 use Rattle.model.specs.Parts.{headAt, heldHeader, nextIn}
 use Rattle.model.specs.Layout.{Layout, headOf}

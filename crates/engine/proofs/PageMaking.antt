@@ -6,8 +6,8 @@ use native.Mathlib.Omega.{arith}
 use lib.ListN.{length, getD, set}
 use lib.Seq.{getD-set-same}
 use Rattle.words.specs.Width.{Width}
-use Rattle.words.specs.Word.{put}
-use Rattle.words.proofs.WordLaws.{Bytes, length-put, bytes-put}
+use Rattle.words.specs.Word.{put, Bytes}
+use Rattle.words.proofs.WordLaws.{length-put, bytes-put}
 use Rattle.model.specs.Shape.{shape, start, offsetOf, pageNeed, endOf, index}
 use Rattle.model.specs.Parts.{pageKind, tagOf, headAt, farTagAt, firstItemAt}
 use Rattle.model.specs.Picture.{draw}

@@ -4,7 +4,7 @@ use mathlib.Core.Path.{_≡_, refl, ap, _∙_}
 use mathlib.Core.List.{List, []}
 use native.Mathlib.Omega.{arith}
 use lib.ListN.{length}
-use Rattle.words.proofs.WordLaws.{Bytes}
+use Rattle.words.specs.Word.{Bytes}
 use Rattle.model.specs.Shape.{shape}
 use Rattle.model.specs.Parts.{variableKind}
 use Rattle.model.specs.Picture.{draw}

@@ -9,8 +9,7 @@ use native.Mathlib.Decide.{ℕ-discrete}
 use lib.ListN.{length}
 use borrow.Author.Tests.{eq-eqb, ne-eqb}
 use Rattle.words.specs.Width.{Width}
-use Rattle.words.specs.Word.{wordAt}
-use Rattle.words.proofs.WordLaws.{Bytes}
+use Rattle.words.specs.Word.{wordAt, Bytes}
 use Rattle.model.specs.Shape.{shape, endOf, start, tags, leastFree}
 use Rattle.model.specs.Parts.{nextAt, previousAt}
 use Rattle.model.specs.Layout.{variable, Block, free, used, Layout, useSize, sizeOf, ends, firstFree, own, blockWords}

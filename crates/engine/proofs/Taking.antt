@@ -7,8 +7,7 @@ use native.Mathlib.Omega.{arith}
 use lib.ListN.{length}
 use borrow.Author.Tests.{lt-ltb, le-ltb}
 use Rattle.words.specs.Width.{Width}
-use Rattle.words.specs.Word.{wordAt, put}
-use Rattle.words.proofs.WordLaws.{Bytes}
+use Rattle.words.specs.Word.{wordAt, put, Bytes}
 use Rattle.model.specs.Shape.{shape, tags, leastFree}
 use Rattle.model.specs.Parts.{pageKind, tagOf, farTagAt, previousAt}
 use Rattle.model.specs.Picture.{Word, draw}

@@ -6,15 +6,16 @@ use mathlib.Core.Logic.{⊎-elim}
 use native.Mathlib.Omega.{arith}
 use lib.ListN.{take, drop}
 use Rattle.words.specs.Width.{Width}
-use Rattle.model.specs.Shape.{shape}
+use Rattle.model.specs.Shape.{shape, start}
 use Rattle.model.specs.Layout.{Layout}
 use Rattle.model.specs.Sound.{Valid}
 use Rattle.model.specs.Rules.{Found, nothing, find, capacity}
 use Rattle.model.specs.Live.{_∈_, Payload, live}
 use Rattle.model.specs.Promises.{FoundIsLive, LookUpShows}
 use Rattle.model.proofs.Good.{shape-good}
-use Rattle.model.proofs.lives.LiveFound.{isThere, live-found}
-use Rattle.model.proofs.lives.FreeLives.{Removed, freed-removes}
+use Rattle.model.proofs.lives.LiveFound.{isThere}
+use Rattle.model.proofs.lives.Moving.{found-live, live-found}
+use Rattle.model.proofs.lives.FreeLives.{Removed}
 
 pub is-there : (f : Found) → isThere f ≡ 1 → f ≡ nothing → ⊥
 is-there f e n = omega (arith, e, ap isThere n)
@@ -27,11 +28,10 @@ module _ {w : ℕ} (wd : Width w) where
 
   pub found-is-live : FoundIsLive (shape w)
   found-is-live end L a v = (
-    (λ n. let r = freed-removes (shape w) (shape-good wd) v a (find (shape w) a L) refl n in (r .payload, r .adds .there, r .at)),
-    (λ x. is-there (find (shape w) a L) (live-found (shape w) L a (x .0) (x .1) (x .2))),
+    (λ n. (record { address = a; size = capacity (shape w) (find (shape w) a L) }, found-live (shape w) a (start (shape w)) (L .blocks) n, refl)),
+    (λ x. subst (λ (z : ℕ). find (shape w) z L ≡ nothing → ⊥) (x .2) (live-found (shape w) (x .0) (start (shape w)) (L .blocks) (shape-good wd) (v .allowed) (x .1) .there)),
   )
 
   pub look-up-shows : LookUpShows (shape w)
   look-up-shows end b L v x h =
-      let r = freed-removes (shape w) (shape-good wd) v (x .address) (find (shape w) (x .address) L) refl (is-there (find (shape w) (x .address) L) (live-found (shape w) L (x .address) x h refl)) in
-      ap (λ (n : ℕ). take n (drop (x .address) b)) (sym (found-size end L (x .address) (find (shape w) (x .address) L) r x h refl))
+      ap (λ (n : ℕ). take n (drop (x .address) b)) (live-found (shape w) x (start (shape w)) (L .blocks) (shape-good wd) (v .allowed) h .large)

@@ -9,7 +9,7 @@ use lib.ListN.{length, getD, take, drop}
 use native.Mathlib.Decide.{decLe, decLt}
 use Rattle.words.specs.Width.{Width}
 use Rattle.words.specs.Copy.{copied}
-use Rattle.words.proofs.WordLaws.{Bytes}
+use Rattle.words.specs.Word.{Bytes}
 use Rattle.words.proofs.CopyLaws.{part-agree, length-copied, copied-in, copied-out}
 use Rattle.model.specs.Shape.{shape, endOf}
 use Rattle.model.specs.Layout.{Layout}
@@ -23,7 +23,8 @@ use Rattle.model.proofs.lives.Payloads.{in-area, content-kept}
 use Rattle.model.proofs.rules.Allocation.{Granted, allocate-grants}
 use Rattle.model.proofs.pictures.Written.{kept-here}
 use Rattle.promises.proofs.Answers.{Does, draws, drawn-length, drawn-bytes}
-use Rattle.model.proofs.lives.LiveFound.{isThere, live-found, live-apart}
+use Rattle.model.proofs.lives.LiveFound.{isThere, live-is-there}
+use Rattle.model.proofs.lives.Moving.{live-apart}
 use Rattle.model.proofs.lives.FreeLives.{Removed, freed-removes}
 use Rattle.promises.proofs.FoundLive.{is-there, found-size}
 use Rattle.promises.proofs.Parts.{take-take, part-moved}
@@ -81,7 +82,7 @@ module _ {w : ℕ} (wd : Width w) where
     copied-lent = (omega (arith, copied-length, l .0), omega (arith, copied-length, l .1))
 
     gone : Removed (shape w) (endOf (length copiedBytes)) K a (find (shape w) a K)
-    gone = freed-removes (shape w) (shape-good wd) (copied-here .valid) a (find (shape w) a K) refl (is-there (find (shape w) a K) (live-found (shape w) K a (was .payload) old-in (was .at)))
+    gone = freed-removes (shape w) (shape-good wd) (copied-here .valid) a (find (shape w) a K) refl (is-there (find (shape w) a K) (live-is-there (shape w) (shape-good wd) (copied-here .valid) a (was .payload) old-in (was .at)))
 
     pub moved-here : Here (shape w) (drawn (shape w) (without (shape w) a (m .layout)) copiedBytes) (without (shape w) a (m .layout))
     moved-here = draws wd copiedBytes K copied-lent copied-here (without (shape w) a K) (gone .valid)

@@ -16,7 +16,8 @@ use Rattle.model.specs.Refusals.{noRoom, notLive}
 use Rattle.model.specs.Calls.{Outcome, refused, drawn, found, made, resized, allocated, moved, Allocates, Resizes}
 use Rattle.model.specs.Promises.{NoRoom, NoRoomExactly}
 use Rattle.model.proofs.Sizes.{per-page-bound}
-use Rattle.model.proofs.lives.LiveFound.{isThere, live-found}
+use Rattle.model.proofs.lives.LiveFound.{isThere, live-is-there}
+use Rattle.model.proofs.Good.{shape-good}
 use Rattle.model.proofs.rules.Room.{no-room}
 
 module _ {w : ℕ} (wd : Width w) where
@@ -45,7 +46,7 @@ module _ {w : ℕ} (wd : Width w) where
       of-resize : (a : ℕ) (x : Payload) → x ∈ live (shape w) L → x .address ≡ a → Resizes (shape w) b a n r → (r .refusal ≡ noRoom) ↔ ((stays (shape w) n (find (shape w) a L) L ≡ none) × NoRoom (shape w) n L)
       of-resize a x i at c =
           let e : r ≡ found (shape w) (find (shape w) a L) (refused b notLive) (resized (shape w) b a (moved (shape w) b a n L) (stays (shape w) n (find (shape w) a L) L)) = rw (le-leb 1 n one, le-leb n (shape w .most) most) at (c .sound l L h) in
-          let f : r ≡ resized (shape w) b a (moved (shape w) b a n L) (stays (shape w) n (find (shape w) a L) L) = e ∙ go (find (shape w) a L) (live-found (shape w) L a x i at) in
+          let f : r ≡ resized (shape w) b a (moved (shape w) b a n L) (stays (shape w) n (find (shape w) a L) L) = e ∙ go (find (shape w) a L) (live-is-there (shape w) (shape-good wd) (h .valid) a x i at) in
           let k = stays-none b a (allocate (shape w) n L) _ (stays (shape w) n (find (shape w) a L) L) in
           ((λ g. let y = k .0 (sym (ap (λ (o : Outcome). o .refusal) f) ∙ g) in (y .0, room .0 (y .1))), (λ g. ap (λ (o : Outcome). o .refusal) f ∙ k .1 (g .0, room .1 (g .1))))
         where

@@ -6,8 +6,8 @@ use native.Mathlib.Omega.{arith}
 use native.Mathlib.Decide.{ℕ-discrete, decLe}
 use lib.ListN.{length}
 use Rattle.words.specs.Width.{Width}
-use Rattle.words.specs.Word.{wordAt, put}
-use Rattle.words.proofs.WordLaws.{Bytes, length-put, bytes-put, word-same}
+use Rattle.words.specs.Word.{wordAt, put, Bytes}
+use Rattle.words.proofs.WordLaws.{length-put, bytes-put, word-same}
 use Rattle.model.specs.Shape.{shape, shortest, endOf}
 use Rattle.model.specs.Picture.{draw}
 use Rattle.model.specs.Layout.{words}

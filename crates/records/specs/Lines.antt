@@ -4,7 +4,7 @@ use mathlib.Core.Path.{_≡_}
 use mathlib.Core.Bool.{cond}
 use mathlib.Core.List.{List, [], _∷_, _++_}
 use lib.ListN.{length, take, drop}
-use lib.Dec.{ltb}
+use lib.Dec.{eqb, ltb}
 use Rattle.words.specs.Word.{wordAt}
 use Rattle.model.specs.Shape.{wide}
 use Rattle.model.specs.Calls.{Outcome, Told, Allocates, Resizes, Frees, Initialises, Counts}
@@ -51,6 +51,10 @@ pub record OpensIn (b : List ℕ) (lent n : ℕ) (r : Played) (c : List ℕ) : T
   pub within : n ≤ length b → Called (Initialises wide (take n b)) b n (r .line) c
   pub granted : n ≤ length b → r .line .refusal ≡ 0 → r .lent ≡ n
   pub refused : n ≤ length b → (r .line .refusal ≡ 0 → ⊥) → r .lent ≡ lent
+
+-- how long the body of a record of a kind is: 4-byte numbers, or none; longer than any body of a kind that there is not, so that such a record is never whole
+abbrev pub bodyLength : ℕ → ℕ
+bodyLength kind = cond (ltb kind 2) 4 (cond (eqb kind 2) 8 (cond (eqb kind 3) 4 (cond (eqb kind 4) 0 9)))
 
 -- a length lent, and no more than the buffer has
 abbrev pub clip : ℕ → ℕ → ℕ

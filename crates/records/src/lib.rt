@@ -7,7 +7,7 @@ ghost use mathlib.Core.Path.{_≡_};
 ghost use Prim.Native.Nat.{_≤_, _<_};
 ghost use lib.ListN.{length};
 ghost use Rattle.words.specs.Word.{wordAt};
-ghost use Rattle.records.specs.Lines.{lineOf, OpensIn, AllocatesIn, FreesIn, ResizesIn, CountsIn, noLine, clip, CallPlayed, Plays};
+ghost use Rattle.records.specs.Lines.{bodyLength, lineOf, OpensIn, AllocatesIn, FreesIn, ResizesIn, CountsIn, noLine, clip, CallPlayed, Plays};
 
 // What a record prints behind its number: the refusal, and the address or the six statistics.
 pub struct Line {
@@ -112,7 +112,7 @@ pub fn open(h: &mut [u8], lent: usize, n: u64) -> Played
 
 // How long the body of a record of a kind is; 9 of a kind that there is not.
 pub fn body_length(kind: u8) -> usize
-    ensures { λ r. ⌜ r ≤ 9 ⌝ }
+    ensures { λ r. ⌜ (r ≡ bodyLength kind) × (r ≤ 9) ⌝ }
 {
     match kind {
         0 => 4,

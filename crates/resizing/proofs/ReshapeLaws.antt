@@ -9,8 +9,7 @@ use native.Mathlib.Omega.{arith}
 use native.Mathlib.Decide.{decLe}
 use lib.ListN.{length}
 use Rattle.words.specs.Width.{Width}
-use Rattle.words.specs.Word.{wordAt}
-use Rattle.words.proofs.WordLaws.{Bytes}
+use Rattle.words.specs.Word.{wordAt, Bytes}
 use Rattle.model.specs.Shape.{shape, endOf, needOf}
 use Rattle.model.specs.Picture.{draw}
 use Rattle.model.specs.Layout.{variable, Block, used, Layout, useSize, useWords, words}

@@ -6,11 +6,7 @@ use native.Mathlib.Omega.{arith}
 use native.Mathlib.Decide.{ℕ-discrete}
 use lib.ListN.{length, getD, set, length-set}
 use lib.Seq.{getD-set-same, getD-set-other}
-use Rattle.words.specs.Word.{wordAt, put}
-
--- every element is a byte
-abbrev pub Bytes : List ℕ → Type 0
-Bytes b = (i : ℕ) → getD b i 0 < 256
+use Rattle.words.specs.Word.{wordAt, put, Bytes}
 
 pub length-put : (w : ℕ) (b : List ℕ) (p v : ℕ) → length (put w b p v) ≡ length b
 unfolding put

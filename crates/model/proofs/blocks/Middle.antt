@@ -9,8 +9,7 @@ use native.Mathlib.Decide.{ℕ-discrete}
 use lib.ListN.{length}
 use lib.Dec.{eqb}
 use borrow.Author.Tests.{eq-eqb, ne-eqb}
-use Rattle.words.specs.Word.{wordAt, put}
-use Rattle.words.proofs.WordLaws.{Bytes}
+use Rattle.words.specs.Word.{wordAt, put, Bytes}
 use Rattle.model.specs.Shape.{Shape, start, endOf}
 use Rattle.model.specs.Parts.{firstFreeAt}
 use Rattle.model.specs.Picture.{Word, Shows, draw}

@@ -5,7 +5,7 @@ use mathlib.Core.Path.{_≡_, refl, sym, ap, _∙_}
 use mathlib.Core.List.{List, [], _∷_, _++_}
 use native.Mathlib.Omega.{arith}
 use lib.ListN.{length}
-use Rattle.words.proofs.WordLaws.{Bytes}
+use Rattle.words.specs.Word.{Bytes}
 use Rattle.model.specs.Shape.{Shape, start, leastFree}
 use Rattle.model.specs.Picture.{Shows, draw}
 use Rattle.model.specs.Layout.{Use, Block, free, used, useSize, sizeOf, ends, blockWords, words}

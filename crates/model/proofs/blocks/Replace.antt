@@ -5,8 +5,8 @@ use mathlib.Core.List.{List, [], _∷_, _++_, append-assoc}
 use mathlib.Core.Logic.{_⊎_, ⊎-elim}
 use native.Mathlib.Omega.{arith}
 use lib.ListN.{length}
-use Rattle.words.specs.Word.{put}
-use Rattle.words.proofs.WordLaws.{Bytes, length-put, put-out, bytes-put}
+use Rattle.words.specs.Word.{put, Bytes}
+use Rattle.words.proofs.WordLaws.{length-put, put-out, bytes-put}
 use Rattle.model.specs.Picture.{Word, Shows, draw}
 use Rattle.model.proofs.pictures.Pictures.{Rise, Outside, Inside, rise-down, rise-append, rise-clear, shows-append, shows-left, shows-right, outside-left, outside-right, shows-put, shows-draw, draw-append, draw-out, length-draw, bytes-draw, drawn, inside-clear}
 use Rattle.model.specs.Shape.{Shape, start, index, tags}

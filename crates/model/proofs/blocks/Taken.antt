@@ -7,8 +7,7 @@ use native.Mathlib.Omega.{arith}
 use native.Mathlib.Decide.{decLe, decLt}
 use lib.Dec.{leb, ltb}
 use borrow.Author.Tests.{le-leb, lt-leb, lt-ltb, le-ltb}
-use Rattle.words.specs.Word.{wordAt}
-use Rattle.words.proofs.WordLaws.{Bytes}
+use Rattle.words.specs.Word.{wordAt, Bytes}
 use Rattle.model.specs.Shape.{Shape, start, leastFree}
 use Rattle.model.specs.Picture.{Word, Shows, draw}
 use Rattle.model.specs.Layout.{Use, Block, free, used, useSize, sizeOf, ends, firstFree, useWords, own, blockWords, words}

@@ -7,8 +7,7 @@ use native.Mathlib.Omega.{arith}
 use native.Mathlib.Nat.{mul-le-mul-left}
 use lib.ListN.{length, getD, set, length-set}
 use borrow.Author.Tests.{eq-eqb, ne-eqb}
-use Rattle.words.specs.Word.{put}
-use Rattle.words.proofs.WordLaws.{Bytes}
+use Rattle.words.specs.Word.{put, Bytes}
 use Rattle.model.specs.Picture.{Word, Shows, draw}
 use Rattle.model.specs.Shape.{Shape, start, index, tags, itemSize}
 use Rattle.model.specs.Parts.{firstFreeAt}

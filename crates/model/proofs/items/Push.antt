@@ -7,8 +7,7 @@ use native.Mathlib.Decide.{ℕ-discrete}
 use lib.ListN.{length, getD, set}
 use lib.Seq.{getD-set-same, getD-set-other}
 use borrow.Author.Tests.{eq-eqb, ne-eqb}
-use Rattle.words.specs.Word.{put}
-use Rattle.words.proofs.WordLaws.{Bytes}
+use Rattle.words.specs.Word.{put, Bytes}
 use Rattle.model.specs.Picture.{draw}
 use Rattle.model.specs.Shape.{Shape, start, index, endOf}
 use Rattle.model.specs.Layout.{idle, held, Block, Layout, headOf, nextOf, header, words}

@@ -8,8 +8,8 @@ use native.Mathlib.Omega.{arith}
 use lib.ListN.{length}
 use lib.Dec.{eqb}
 use borrow.Author.Tests.{eq-eqb, ne-eqb}
-use Rattle.words.specs.Word.{put}
-use Rattle.words.proofs.WordLaws.{Bytes, length-put, put-out, word-same, word-other, bytes-put}
+use Rattle.words.specs.Word.{put, Bytes}
+use Rattle.words.proofs.WordLaws.{length-put, put-out, word-same, word-other, bytes-put}
 use Rattle.model.specs.Picture.{Word, Shows, draw}
 use Rattle.model.proofs.pictures.Pictures.{Rise, Outside, rise-le, shows-put, drawn}
 

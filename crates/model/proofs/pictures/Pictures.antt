@@ -7,8 +7,8 @@ use native.Mathlib.Omega.{arith}
 use native.Mathlib.Decide.{decLt, decLe}
 use lib.ListN.{length, getD}
 use lib.Seq.{ext-getD}
-use Rattle.words.specs.Word.{wordAt, put}
-use Rattle.words.proofs.WordLaws.{Bytes, length-put, put-out, put-in, word-same, word-other, word-agree, bytes-put}
+use Rattle.words.specs.Word.{wordAt, put, Bytes}
+use Rattle.words.proofs.WordLaws.{length-put, put-out, put-in, word-same, word-other, word-agree, bytes-put}
 use Rattle.model.specs.Picture.{Word, Shows, draw}
 use Rattle.model.specs.Live.{_∈_}
 

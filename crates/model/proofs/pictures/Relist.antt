@@ -8,8 +8,8 @@ use native.Mathlib.Decide.{ℕ-discrete}
 use lib.ListN.{length, getD, set}
 use lib.Seq.{getD-set-other}
 use borrow.Author.Tests.{eq-eqb, ne-eqb}
-use Rattle.words.specs.Word.{put}
-use Rattle.words.proofs.WordLaws.{Bytes, length-put, put-out, bytes-put}
+use Rattle.words.specs.Word.{put, Bytes}
+use Rattle.words.proofs.WordLaws.{length-put, put-out, bytes-put}
 use Rattle.model.specs.Picture.{Word, Shows, draw}
 use Rattle.model.specs.Shape.{Shape, start, index, tags, itemSize}
 use Rattle.model.specs.Parts.{firstFreeAt}

@@ -1,11 +1,14 @@
 -- Document 01's figures, computed from the definitions: one table, one statement. At 8 bytes a word only, as the figures are.
-use Prim.Native.Nat.{ℕ, _+_}
+use Prim.Native.Nat.{ℕ, _+_, _*_, _≤_, _<_}
+use native.Mathlib.Nat.{div-add-mod', mod-lt}
+use native.Mathlib.Omega.{arith}
 use mathlib.Core.Path.{_≡_, refl}
 use mathlib.Core.Bool.{cond}
 use mathlib.Core.List.{List, [], _∷_}
 use lib.Dec.{eqb}
 use Rattle.model.specs.Picture.{Word}
-use Rattle.model.specs.Shape.{wide, start, leastFree, endOf}
+use Rattle.model.specs.Shape.{wide, start, leastFree, itemSize, endOf}
+use Rattle.model.proofs.Sizes.{eight, page-items-bound}
 use Rattle.model.specs.Layout.{Layout, headOf, nextOf, useSize, sizeOf, ends, firstFree, header, slotWords, useWords, own, blockWords, headWords, fixedLow, fixedHigh, words}
 use Rattle.model.specs.Sound.{idleSlots}
 use Rattle.model.specs.Rules.{fit, before, inFront, cut, slotTo, useTo, itemTo, fromList, fromPage, anItem, aBlock, allocate, inSlots, findFrom, freed, shrunk, grown, reshaped, stays, fresh}
@@ -98,3 +101,7 @@ expected =
 figures : computed ≡ expected
 unfolding computed expected wordIn word gives says after freshOf H A B C D R P doing headOf nextOf useSize sizeOf ends firstFree header slotWords useWords own blockWords headWords fixedLow fixedHigh words idleSlots fit before inFront cut slotTo useTo itemTo fromList fromPage anItem aBlock allocate inSlots findFrom freed shrunk grown reshaped stays total greatest heldIn ofBlock counted
 figures = refl
+
+-- a page's items take more than 4,096 and at most 4,360 bytes
+pub page-takes : (c : ℕ) → c < wide .classes → (4096 < wide .perPage c * itemSize wide c) × (wide .perPage c * itemSize wide c ≤ 4360)
+page-takes c h = (omega (arith, div-add-mod' 4096 (8 * c + 16), mod-lt 4096 {m = 8 * c + 16} (omega arith)), page-items-bound eight c h)
