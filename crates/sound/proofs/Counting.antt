@@ -1,5 +1,5 @@
 -- Laws of the count along the item lists: what a test tells of the lists, and why counting is enough.
-use Prim.Native.Nat.{ℕ, suc, _+_, _-_, _*_, _/_, _%_, _≤_, _<_}
+use Prim.Native.Nat.{ℕ, suc, _+_, _-_, _%_, _≤_, _<_}
 use mathlib.Core.Path.{_≡_, refl, sym, ap, _∙_}
 use mathlib.Core.Bool.{cond}
 use mathlib.Core.List.{List, [], _∷_}
@@ -19,6 +19,9 @@ use Rattle.model.proofs.Sizes.{zero-even}
 use Rattle.sound.specs.Maps.{Marked, itemBit, atBit, offsetBit, offsetAtBit, indexBit}
 use Rattle.sound.specs.Lists.{FreeItemAt, named, Chain, Chains, flat, ListCounted, Listed}
 use Rattle.sound.specs.Told.{ListTold}
+use Rattle.sound.specs.declared.Marks.{Marks}
+use Rattle.sound.specs.declared.Marks.the-variants.{Unsound, Count}
+use Rattle.sound.proofs.Tellings.{no-count, count-no, count-same}
 use Rattle.sound.proofs.MapLaws.{bit-low, same-bit, fewer, all-met}
 use Rattle.sound.proofs.Chained.{same-chain}
 use Rattle.sound.proofs.Agree.{flat-item, flat-once}
@@ -27,25 +30,27 @@ use Rattle.sound.proofs.Places.{offset-bit-low, offset-back, bit-back, 
 -- the count of a list's items stands at the item of bit i, or at the end, with n left
 pub record ListInv (w : ℕ) (b : List ℕ) (end c o : ℕ) (m : List ℕ) (before n i : ℕ) : Type 0 where
   pub width : Width w
-  pub ahead : (s : ℕ) → ListCounted w b end c o m before (suc s) → ListCounted w b end c (offsetAtBit w i) m n (suc s)
+  pub ahead : (r : ℕ) → ListCounted w b end c o m before r → ListCounted w b end c (offsetAtBit w i) m n r
   pub back : (r : ℕ) → ListCounted w b end c (offsetAtBit w i) m n r → ListCounted w b end c o m before r
-  pub some : 1 ≤ n
   pub from : indexBit w ≤ i
 
-list-no : {w : ℕ} {b : List ℕ} {end c o : ℕ} {m : List ℕ} {n : ℕ} → ((s : ℕ) → ListCounted w b end c o m n (suc s) → ⊥) → ListTold w b end c o m n 0
-list-no f = record { is-no = λ _. f; is-yes = λ z. absurd (z refl) }
+list-no : {w : ℕ} {b : List ℕ} {end c o : ℕ} {m : List ℕ} {n : ℕ} → ((r : ℕ) → ListCounted w b end c o m n r → ⊥) → ListTold w b end c o m n Unsound
+list-no f = record { is-no = λ _. f; is-yes = λ r y. absurd (no-count y) }
+
+list-ends : {w : ℕ} {b : List ℕ} {end c o : ℕ} {m : List ℕ} {n r : ℕ} → ListCounted w b end c o m n r → ListTold w b end c o m n (Count r)
+list-ends k = record { is-no = λ y. absurd (count-no y); is-yes = λ r y. rw (← count-same y) k }
 
 -- told of the head that was read
-pub list-from : {w : ℕ} {b : List ℕ} {end c : ℕ} {m : List ℕ} {n r : ℕ} (o p q : ℕ) → o ≡ wordAt w b p → p ≡ q → ListTold w b end c o m n r → ListTold w b end c (wordAt w b q) m n r
+pub list-from : {w : ℕ} {b : List ℕ} {end c : ℕ} {m : List ℕ} {n : ℕ} {r : Marks} (o p q : ℕ) → o ≡ wordAt w b p → p ≡ q → ListTold w b end c o m n r → ListTold w b end c (wordAt w b q) m n r
 list-from {w} {b} o p q e f t = rw (← (e ∙ ap (λ (x : ℕ). wordAt w b x) f)) t
 
 -- a list with no items
-pub list-none : {w : ℕ} {b : List ℕ} {end c o : ℕ} {m : List ℕ} {n : ℕ} → 1 ≤ n → o ≡ 0 → ListTold w b end c o m n n
+pub list-none : {w : ℕ} {b : List ℕ} {end c o : ℕ} {m : List ℕ} {n : ℕ} → o ≡ 0 → ListTold w b end c o m n (Count n)
 unfolding Chain times
-list-none l e = record { is-no = λ z. absurd (omega arith); is-yes = λ _. record { list = []; chain = e; set = λ x q. absurd (omega arith); count = omega arith } }
+list-none e = list-ends (record { list = []; chain = e; set = λ x q. absurd (omega arith); count = omega arith })
 
 -- a head that is no whole number of words
-pub list-head : {w : ℕ} → Width w → {b : List ℕ} {end c o : ℕ} {m : List ℕ} {n : ℕ} → (o % w ≡ 0 → ⊥) → ListTold w b end c o m n 0
+pub list-head : {w : ℕ} → Width w → {b : List ℕ} {end c o : ℕ} {m : List ℕ} {n : ℕ} → (o % w ≡ 0 → ⊥) → ListTold w b end c o m n Unsound
 unfolding Chain
 list-head {w} wd {b} {end} {c} {o} f = list-no (λ s r. go (r .list) (r .chain))
   where
@@ -53,19 +58,15 @@ list-head {w} wd {b} {end} {c} {o} f = list-no (λ s r. go (r .list) (r .chain))
     go [] h = f (zero-even wd o h)
     go (x ∷ xs) h = f (rw (h .0) (h .1 .even))
 
-pub list-start : {w : ℕ} → Width w → {b : List ℕ} {end c o : ℕ} {m : List ℕ} {n i : ℕ} → o % w ≡ 0 → 1 ≤ n → i ≡ offsetBit w o → ListInv w b end c o m n n i
-list-start {w} wd {b} {end} {c} {o} e l ei =
+pub list-start : {w : ℕ} → Width w → {b : List ℕ} {end c o : ℕ} {m : List ℕ} {n i : ℕ} → o % w ≡ 0 → i ≡ offsetBit w o → ListInv w b end c o m n n i
+list-start {w} wd {b} {end} {c} {o} e ei =
     let f : offsetAtBit w (offsetBit w o) ≡ o = offset-back wd o e in
-    rw ei (record { width = wd; ahead = λ s r. rw f r; back = λ s r. rw f at r; some = l; from = offset-bit-low wd o })
+    rw ei (record { width = wd; ahead = λ s r. rw f r; back = λ s r. rw f at r; from = offset-bit-low wd o })
 
 module _ {w : ℕ} {b : List ℕ} {end c o : ℕ} {m : List ℕ} {before n i : ℕ} (v : ListInv w b end c o m before n i) where
-  pub list-done : i ≡ indexBit w → ListTold w b end c o m before n
+  pub list-done : i ≡ indexBit w → ListTold w b end c o m before (Count n)
   unfolding Chain times
-  list-done e =
-      record {
-        is-no = λ z. absurd (omega (arith, v .some));
-        is-yes = λ _. v .back n (record { list = []; chain = rw e (index-offset (v .width)); set = λ x q. absurd (omega arith); count = omega arith });
-      }
+  list-done e = list-ends (v .back n (record { list = []; chain = rw e (index-offset (v .width)); set = λ x q. absurd (omega arith); count = omega arith }))
 
   -- the end of a list has no mark
   pub list-more : bitAt m (indexBit w) ≡ 0 → bitAt m i ≡ 1 → i ≡ indexBit w → ⊥
@@ -76,14 +77,14 @@ module _ {w : ℕ} {b : List ℕ} {end c o : ℕ} {m : List ℕ} {before n i : �
     record Head (r : ℕ) : Type 0 where
       here : FreeItemAt w b end c (offsetAtBit w i)
       set : bitAt m i ≡ 1
-      more : 1 < n
+      more : 1 ≤ n
       next : ListCounted w b end c (named w b (offsetAtBit w i)) m (n - 1) r
 
-    head-of : (s : ℕ) → ListCounted w b end c (offsetAtBit w i) m n (suc s) → Head (suc s)
+    head-of : (s : ℕ) → ListCounted w b end c (offsetAtBit w i) m n s → Head s
     unfolding Chain times
     head-of s r = go (r .list) (r .chain) (r .set) (r .count)
       where
-        go : (l : List ℕ) → Chain w b end c (offsetAtBit w i) l → ((x : ℕ) → 1 ≤ times x l → bitAt m (offsetBit w x) ≡ 1) → length l + suc s ≡ n → Head (suc s)
+        go : (l : List ℕ) → Chain w b end c (offsetAtBit w i) l → ((x : ℕ) → 1 ≤ times x l → bitAt m (offsetBit w x) ≡ 1) → length l + s ≡ n → Head s
         go [] h g t = absurd (z (offset-zero (v .width) i (v .from) h))
         go (x ∷ xs) h g t =
             record {
@@ -93,17 +94,17 @@ module _ {w : ℕ} {b : List ℕ} {end c o : ℕ} {m : List ℕ} {before n i : �
               next = record { list = xs; chain = rw (h .0) (h .2); set = λ y q. g y (omega arith); count = omega arith };
             }
 
-    fail : ((s : ℕ) → Head (suc s) → ⊥) → ListTold w b end c o m before 0
+    fail : ((s : ℕ) → Head s → ⊥) → ListTold w b end c o m before Unsound
     fail f = list-no (λ s r. f s (head-of s (v .ahead s r)))
 
     -- an offset beyond the end, an item too many, one that is not marked, one of another class
-    pub list-out : itemBit w end ≤ i → ListTold w b end c o m before 0
+    pub list-out : itemBit w end ≤ i → ListTold w b end c o m before Unsound
     list-out h = fail (λ s y. outside (v .width) i end (v .from) h (y .here .inside))
 
-    pub list-over : n - 1 ≡ 0 → ListTold w b end c o m before 0
+    pub list-over : n ≡ 0 → ListTold w b end c o m before Unsound
     list-over h = fail (λ s y. omega (arith, y .more))
 
-    pub list-clear : (r : ℕ) → r ≡ bitAt m i → r ≡ 0 → ListTold w b end c o m before 0
+    pub list-clear : (r : ℕ) → r ≡ bitAt m i → r ≡ 0 → ListTold w b end c o m before Unsound
     list-clear r e f = fail (λ s y. omega (arith, y .set))
 
     -- x is the item's header, and j the bit of the item that it names
@@ -111,10 +112,10 @@ module _ {w : ℕ} {b : List ℕ} {end c o : ℕ} {m : List ℕ} {before n i : �
       read : wordAt w b (itemAt (shape w) (offsetAtBit w i)) ≡ x
       read = ap (λ (q : ℕ). wordAt w b q) (place (v .width) i (v .from) ∙ sym ep) ∙ sym ex
 
-      pub list-other : (classAndFlags (shape w) x ≡ freeMark c → ⊥) → ListTold w b end c o m before 0
+      pub list-other : (classAndFlags (shape w) x ≡ freeMark c → ⊥) → ListTold w b end c o m before Unsound
       list-other f = fail (λ s y. f (rw (← read) (y .here .header)))
 
-      pub list-turn : i < itemBit w end → (n - 1 ≡ 0 → ⊥) → bitAt m i ≡ 1 → classAndFlags (shape w) x ≡ freeMark c → (j : ℕ) → j ≡ offsetBit w (nextIn (shape w) x) → ListInv w b end c o m before (n - 1) j
+      pub list-turn : i < itemBit w end → (n ≡ 0 → ⊥) → bitAt m i ≡ 1 → classAndFlags (shape w) x ≡ freeMark c → (j : ℕ) → j ≡ offsetBit w (nextIn (shape w) x) → ListInv w b end c o m before (n - 1) j
       unfolding Chain times
       list-turn l e s f j ej =
           let g : named w b (offsetAtBit w i) ≡ offsetAtBit w j = rw (read, ej) (sym (offset-back (v .width) (nextIn (shape w) x) (next-even (v .width) x))) in
@@ -125,9 +126,8 @@ module _ {w : ℕ} {b : List ℕ} {end c o : ℕ} {m : List ℕ} {before n i : �
               list = offsetAtBit w i ∷ r .list;
               chain = (refl, record { nonzero = λ y. z (offset-zero (v .width) i (v .from) y); even = offset-even (v .width) i; inside = inside (v .width) i end (v .from) l; header = rw read f }, rw g (r .chain));
               set = λ y q. set r y q (ℕ-discrete y (offsetAtBit w i));
-              count = omega (arith, r .count, v .some);
+              count = omega (arith, r .count);
             });
-            some = omega arith;
             from = rw ej (offset-bit-low (v .width) (nextIn (shape w) x));
           }
         where
@@ -135,34 +135,33 @@ module _ {w : ℕ} {b : List ℕ} {end c o : ℕ} {m : List ℕ} {before n i : �
           set r y q (yes e) = ap (λ (k : ℕ). bitAt m k) (bit-is (v .width) i y (v .from) (sym e)) ∙ s
           set r y q (no e) = r .set y (omega (arith, rw (ne-eqb y (offsetAtBit w i) e) at q))
 
--- the lists from class c on go to their ends over n - 1 marked items
-pub record Passed (w : ℕ) (b : List ℕ) (end c : ℕ) (m : List ℕ) (n : ℕ) : Type 0 where
+-- the lists from class c on go to their ends over n marked items
+pub record ListsPassed (w : ℕ) (b : List ℕ) (end c : ℕ) (m : List ℕ) (n : ℕ) : Type 0 where
   pub lists : List (List ℕ)
   pub chains : Chains w b end c lists
   pub set : (x : ℕ) → 1 ≤ times x (flat lists) → bitAt m (offsetBit w x) ≡ 1
-  pub count : suc (length (flat lists)) ≡ n
+  pub count : length (flat lists) ≡ n
 
 pub record ListsInv (w : ℕ) (b : List ℕ) (end : ℕ) (m : List ℕ) (before n c : ℕ) : Type 0 where
   pub width : Width w
-  pub ahead : Passed w b end 0 m before → Passed w b end c m n
-  pub back : Passed w b end c m n → Passed w b end 0 m before
-  pub some : 1 ≤ n
+  pub ahead : ListsPassed w b end 0 m before → ListsPassed w b end c m n
+  pub back : ListsPassed w b end c m n → ListsPassed w b end 0 m before
   pub inside : c ≤ shape w .classes
 
 pub lists-start : {w : ℕ} → Width w → {b : List ℕ} {end : ℕ} {m : List ℕ} {n : ℕ} → Marked m n → ListsInv w b end m n n 0
-lists-start wd k = record { width = wd; ahead = λ r. r; back = λ r. r; some = omega (arith, k .count); inside = omega arith }
+lists-start wd k = record { width = wd; ahead = λ r. r; back = λ r. r; inside = omega arith }
 
 module _ {w : ℕ} {b : List ℕ} {end : ℕ} {m : List ℕ} {before n c : ℕ} (i : ListsInv w b end m before n c) where
   -- after the last class: nothing is left to count
-  pub lists-yes : shape w .classes ≤ c → n ≡ 1 → Passed w b end 0 m before
+  pub lists-yes : shape w .classes ≤ c → n ≡ 0 → ListsPassed w b end 0 m before
   unfolding Chains flat times
   lists-yes h e = i .back (record { lists = []; chains = omega (arith, i .inside); set = λ x q. absurd (omega arith); count = sym e })
 
-  pub lists-one : shape w .classes ≤ c → Passed w b end 0 m before → n ≡ 1
+  pub lists-none : shape w .classes ≤ c → ListsPassed w b end 0 m before → n ≡ 0
   unfolding Chains flat
-  lists-one h r = go (i .ahead r .lists) (i .ahead r .chains) (i .ahead r .count)
+  lists-none h r = go (i .ahead r .lists) (i .ahead r .chains) (i .ahead r .count)
     where
-      go : (ls : List (List ℕ)) → Chains w b end c ls → suc (length (flat ls)) ≡ n → n ≡ 1
+      go : (ls : List (List ℕ)) → Chains w b end c ls → length (flat ls) ≡ n → n ≡ 0
       go [] k g = sym g
       go (l ∷ ls) k g = absurd (omega (arith, k .0))
 
@@ -171,15 +170,15 @@ module _ {w : ℕ} {b : List ℕ} {end : ℕ} {m : List ℕ} {before n c : ℕ} 
     -- its list, and the lists after it
     record Split : Type 0 where
       rest : List (List ℕ)
-      first : ListCounted w b end c o m n (suc (length (flat rest)))
+      first : ListCounted w b end c o m n (length (flat rest))
       chains : Chains w b end (c + 1) rest
       set : (x : ℕ) → 1 ≤ times x (flat rest) → bitAt m (offsetBit w x) ≡ 1
 
-    split : Passed w b end c m n → Split
+    split : ListsPassed w b end c m n → Split
     unfolding Chains flat
     split r = go (r .lists) (r .chains) (r .set) (r .count)
       where
-        go : (ls : List (List ℕ)) → Chains w b end c ls → ((x : ℕ) → 1 ≤ times x (flat ls) → bitAt m (offsetBit w x) ≡ 1) → suc (length (flat ls)) ≡ n → Split
+        go : (ls : List (List ℕ)) → Chains w b end c ls → ((x : ℕ) → 1 ≤ times x (flat ls) → bitAt m (offsetBit w x) ≡ 1) → length (flat ls) ≡ n → Split
         go [] k g t = absurd (omega arith)
         go (l ∷ ls) k g t =
             record {
@@ -189,13 +188,13 @@ module _ {w : ℕ} {b : List ℕ} {end : ℕ} {m : List ℕ} {before n c : ℕ} 
               set = λ x q. g x (omega (arith, q, times-append x l (flat ls)));
             }
 
-    pub lists-fail : (r : ℕ) → ListTold w b end c o m n r → r ≡ 0 → Passed w b end 0 m before → ⊥
-    lists-fail r t e v = let s = split (i .ahead v) in t .is-no e (length (flat (s .rest))) (s .first)
+    pub lists-fail : (a : Marks) → ListTold w b end c o m n a → a ≡ Unsound → ListsPassed w b end 0 m before → ⊥
+    lists-fail a t e v = let s = split (i .ahead v) in t .is-no e (length (flat (s .rest))) (s .first)
 
-    pub lists-turn : (r : ℕ) → ListTold w b end c o m n r → (r ≡ 0 → ⊥) → ListsInv w b end m before r (c + 1)
+    pub lists-turn : (a : Marks) (r : ℕ) → ListTold w b end c o m n a → a ≡ Count r → ListsInv w b end m before r (c + 1)
     unfolding Chains flat
-    lists-turn r t e =
-        let k = t .is-yes e in
+    lists-turn a r t e =
+        let k = t .is-yes r e in
         record {
           width = i .width;
           ahead = λ v. on k (split (i .ahead v));
@@ -205,14 +204,13 @@ module _ {w : ℕ} {b : List ℕ} {end : ℕ} {m : List ℕ} {before n c : ℕ} 
             set = λ x q. set k v x (omega (arith, q, times-append x (k .list) (flat (v .lists)))) (decLe 1 (times x (k .list)));
             count = omega (arith, k .count, v .count, length-append (k .list) (flat (v .lists)));
           });
-          some = omega arith;
           inside = omega arith;
         }
       where
-        on : ListCounted w b end c o m n r → Split → Passed w b end (c + 1) m r
+        on : ListCounted w b end c o m n r → Split → ListsPassed w b end (c + 1) m r
         on k s = record { lists = s .rest; chains = s .chains; set = s .set; count = omega (arith, k .count, s .first .count, ap length (same-chain (i .width) b end c o (s .first .list) (k .list) (s .first .chain) (k .chain))) }
 
-        set : (k : ListCounted w b end c o m n r) (v : Passed w b end (c + 1) m r) (x : ℕ) → 1 ≤ times x (k .list) + times x (flat (v .lists)) → Dec (1 ≤ times x (k .list)) → bitAt m (offsetBit w x) ≡ 1
+        set : (k : ListCounted w b end c o m n r) (v : ListsPassed w b end (c + 1) m r) (x : ℕ) → 1 ≤ times x (k .list) + times x (flat (v .lists)) → Dec (1 ≤ times x (k .list)) → bitAt m (offsetBit w x) ≡ 1
         set k v x q (yes f) = k .set x f
         set k v x q (no f) = v .set x (omega arith)
 
@@ -238,7 +236,7 @@ bits-flat wd b end ls h j = bits-times wd j (flat ls) (λ x q. let it = flat-ite
 
 -- the lists visit every marked item once and nothing else exactly where they go over as many marked items as there are marks
 module _ {w : ℕ} (wd : Width w) {b : List ℕ} {end : ℕ} {m : List ℕ} {n : ℕ} (k : Marked m n) where
-  pub listed-passed : Listed w b end m → Passed w b end 0 m n
+  pub listed-passed : Listed w b end m → ListsPassed w b end 0 m n
   listed-passed r = record { lists = r .lists; chains = r .chains; set = λ x q. set x q (flat-item wd b x end (r .lists) (r .chains) q .even); count = omega (arith, k .count, bits-length w (flat (r .lists)), fewer (bitsOf w (flat (r .lists))) (k .list) (λ j. omega (arith, same j)), fewer (k .list) (bitsOf w (flat (r .lists))) (λ j. omega (arith, same j))) }
     where
       same : (j : ℕ) → times j (bitsOf w (flat (r .lists))) ≡ times j (k .list)
@@ -249,7 +247,7 @@ module _ {w : ℕ} (wd : Width w) {b : List ℕ} {end : ℕ} {m : List ℕ} {n :
           let f : offsetAtBit w (offsetBit w x) ≡ x = offset-back wd x e in
           omega (arith, bit-low m (offsetBit w x), rw f at (r .marks (offsetBit w x)))
 
-  pub passed-listed : Passed w b end 0 m n → Listed w b end m
+  pub passed-listed : ListsPassed w b end 0 m n → Listed w b end m
   passed-listed r = record { lists = r .lists; chains = r .chains; marks = λ j. omega (arith, k .marks j, bits-flat wd b end (r .lists) (r .chains) j, met j, all-met (bitsOf w (flat (r .lists))) (k .list) met (omega (arith, k .count, r .count, bits-length w (flat (r .lists)))) j) }
     where
       go : (j : ℕ) → Dec (1 ≤ times (offsetAtBit w j) (flat (r .lists))) → times (offsetAtBit w j) (flat (r .lists)) ≤ times j (k .list)

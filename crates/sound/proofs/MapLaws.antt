@@ -11,7 +11,7 @@ use borrow.Author.Tests.{eq-eqb, ne-eqb}
 use Rattle.words.specs.Width.{Width}
 use Rattle.words.specs.Bits.{bitAt, marked}
 use Rattle.words.proofs.BitLaws.{marked-same, marked-other}
-use Rattle.model.specs.Shape.{shape, index, itemAt}
+use Rattle.model.specs.Shape.{shape, itemAt}
 use Rattle.model.specs.Sound.{times}
 use Rattle.model.proofs.pictures.Drawn.{times-append}
 use Rattle.sound.specs.Maps.{Adds, Marked, NoMarks, itemBit, atBit, offsetAtBit, mapEnd}
@@ -105,16 +105,13 @@ module _ {w : ℕ} (wd : Width w) where
       go j k = rw (same-bit i j o p z) (omega (arith, k, ap (λ (x : List ℕ). bitAt x j) e, marked-at m i u c j))
 
 -- the number of marks
-pub marked-none : {w : ℕ} {m : List ℕ} → NoMarks w m 0 → Marked m 1
+pub marked-none : {w : ℕ} {m : List ℕ} → NoMarks w m 0 → Marked m 0
 unfolding times
 marked-none k = record { list = []; marks = λ j. k .from j (omega arith); count = refl }
 
 pub marked-more : {m m₁ : List ℕ} {n : ℕ} (i : ℕ) → i / 64 < length m → bitAt m i ≡ 0 → m₁ ≡ marked m i → Marked m n → Marked m₁ (n + 1)
 unfolding times
 marked-more {m} i u c e k = record { list = i ∷ k .list; marks = λ j. omega (arith, ap (λ (x : List ℕ). bitAt x j) e, marked-at m i u c j, k .marks j); count = omega (arith, k .count) }
-
-pub marked-pos : {m : List ℕ} {n : ℕ} → Marked m n → n ≡ 0 → ⊥
-marked-pos k e = omega (arith, k .count)
 
 -- the marks up to a position
 pub marking-on : {w : ℕ} {m : List ℕ} {n p q : ℕ} → p ≤ q → Marking w m n p → Marking w m n q

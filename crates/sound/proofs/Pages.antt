@@ -1,5 +1,5 @@
 -- Laws of a page's items and of blocks in use: what the tests of the headers tell.
-use Prim.Native.Nat.{ℕ, zero, suc, _+_, _-_, _*_, _/_, _%_, _≤_, _<_}
+use Prim.Native.Nat.{ℕ, zero, suc, _+_, _-_, _*_, _%_, _≤_, _<_}
 use mathlib.Core.Path.{_≡_, refl, sym, ap, subst, _∙_}
 use mathlib.Core.List.{List, [], _∷_}
 use native.Mathlib.Omega.{arith}
@@ -8,14 +8,17 @@ use Rattle.words.specs.Width.{Width}
 use Rattle.words.specs.Word.{wordAt}
 use Rattle.words.specs.Bits.{marked}
 use Rattle.model.specs.Shape.{shape, itemSize, index, start, leastFree, leastVariable, pageNeed}
-use Rattle.model.specs.Parts.{variableKind, pageKind, freeMark, heldHeader, classAndFlags, classIn, farTagAt, firstItemAt}
+use Rattle.model.specs.Parts.{variableKind, pageKind, freeMark, heldHeader, classAndFlags, classIn, firstItemAt}
 use Rattle.model.specs.Layout.{Slot, idle, held, Use, variable, page, useSize}
 use Rattle.model.specs.Sound.{AllowedUse, idleSlots}
-use Rattle.model.proofs.Sizes.{per-page-bound, page-items-bound, item-even, class-few, class-held, page-eight, first-even}
+use Rattle.model.proofs.Sizes.{per-page-bound, page-product, item-even, class-few, class-held, page-eight, first-even}
 use Rattle.sound.specs.Onward.{Slots, Items, useKind, Headers, UseAt, freeIn}
 use Rattle.sound.specs.Maps.{NoMarks, itemBit, mapEnd}
-use Rattle.sound.specs.Told.{Marking, MarkRoom, ItemsMarked, ItemsTold, UseRoom, UseMarked, UseTold}
-use Rattle.sound.proofs.MapLaws.{adds-none, adds-mark, marking-on, marking-more, marked-pos, length-marked}
+use Rattle.sound.specs.Told.{Marking, MarkRoom, ItemsMarked, ItemsTold, PageRoom, UseMarked, PageTold}
+use Rattle.sound.specs.declared.Marks.{Marks}
+use Rattle.sound.specs.declared.Marks.the-variants.{Unsound, Count}
+use Rattle.sound.proofs.Tellings.{no-count, count-no, count-same}
+use Rattle.sound.proofs.MapLaws.{adds-none, adds-mark, marking-on, marking-more, length-marked}
 use Rattle.sound.proofs.Places.{whole, bit-room}
 
 -- a header of an item of class c: of a free one, or of one in use
@@ -77,9 +80,8 @@ module _ {w : ℕ} {b m₀ : List ℕ} {first stop c : ℕ} {m : List ℕ} {n q 
   items-fit h = omega (arith, i .stops, pred-mul (i .left) (itemSize (shape w) c) (items-some h))
 
   -- a header that is neither
-  pub items-wrong : q < stop → (x : ℕ) → x ≡ wordAt w b q → (classAndFlags (shape w) x ≡ freeMark c → ⊥) → (x ≡ heldHeader c → ⊥) → (m′ : List ℕ) → ItemsTold w b m₀ first stop c 0 m′
-  items-wrong h x e f g m′ =
-      record { is-no = λ _ k. go (items-in b c q (i .left) (items-some h) (i .ahead k) .0); is-yes = λ z. absurd (z refl); marking = λ z. absurd (z refl) }
+  pub items-wrong : q < stop → (x : ℕ) → x ≡ wordAt w b q → (classAndFlags (shape w) x ≡ freeMark c → ⊥) → (x ≡ heldHeader c → ⊥) → (m′ : List ℕ) → ItemsTold w b m₀ first stop c Unsound m′
+  items-wrong h x e f g m′ = record { is-no = λ _ k. go (items-in b c q (i .left) (items-some h) (i .ahead k) .0); is-yes = λ n y. absurd (no-count y) }
     where
       go : Header w b c q → ⊥
       go (of-idle y) = f (rw e y)
@@ -115,18 +117,14 @@ module _ {w : ℕ} {b m₀ : List ℕ} {first stop c : ℕ} {m : List ℕ} {n q 
         size = i .size;
       })
 
-  pub items-done : stop ≤ q → ItemsTold w b m₀ first stop c n m
-  items-done h = go (i .left) refl
+  pub items-done : stop ≤ q → ItemsTold w b m₀ first stop c (Count n) m
+  items-done h = record { is-no = λ y. absurd (count-no y); is-yes = λ k y. rw (← count-same y) (go (i .left) refl) }
     where
-      go : (k : ℕ) → i .left ≡ k → ItemsTold w b m₀ first stop c n m
+      go : (k : ℕ) → i .left ≡ k → ItemsMarked w b c first (shape w .perPage c) m₀ m × Marking w m n stop
       go (suc k) e = absurd (omega (arith, i .width .least, i .stops, ap (λ (x : ℕ). q + x * itemSize (shape w) c) e))
       go zero e =
           let at-end : stop ≡ q = omega (arith, i .stops, ap (λ (x : ℕ). q + x * itemSize (shape w) c) e) in
-          record {
-            is-no = λ z. absurd (marked-pos (i .marking .marked) z);
-            is-yes = λ _. i .back m (rw e (items-none (i .width) b c q m));
-            marking = λ _. rw at-end (i .marking);
-          }
+          (i .back m (rw e (items-none (i .width) b c q m)), rw at-end (i .marking))
 
 -- the class that the first header of a page at p says
 abbrev pub classAt : ℕ → List ℕ → ℕ → ℕ
@@ -176,7 +174,7 @@ page-out {w} wd b p s c m m′ lc a l h i =
     }
 
 -- a variable block
-pub variable-in : {w : ℕ} (b : List ℕ) (p s : ℕ) → UseAt w b p s variableKind → leastVariable (shape w) ≤ s
+variable-in : {w : ℕ} (b : List ℕ) (p s : ℕ) → UseAt w b p s variableKind → leastVariable (shape w) ≤ s
 unfolding useKind AllowedUse useSize
 variable-in {w} b p s r = go (r .use-is) (r .allowed) (r .size) (r .kind-is)
   where
@@ -188,6 +186,9 @@ pub variable-out : {w : ℕ} → Width w → (b : List ℕ) (p s : ℕ) (m : Lis
 unfolding useKind Headers freeIn AllowedUse useSize
 variable-out wd b p s m a h = record { use-at = record { use-is = variable s; allowed = (h, a); size = refl; kind-is = refl; headers = tt }; adds = adds-none wd m }
 
+pub variable-small : {w : ℕ} (b : List ℕ) (p s : ℕ) → s < leastVariable (shape w) → UseAt w b p s variableKind → ⊥
+variable-small b p s h u = omega (arith, variable-in b p s u)
+
 -- no other kind
 pub other-in : {w : ℕ} (b : List ℕ) (p s kind : ℕ) → (kind ≡ variableKind → ⊥) → (kind ≡ pageKind → ⊥) → UseAt w b p s kind → ⊥
 unfolding useKind
@@ -198,50 +199,41 @@ other-in {w} b p s kind n m r = go (r .use-is) (r .kind-is)
     go (page c k ss) e = m (sym e)
 
 -- a page whose first item is at q and has the header x, which says class c; k is what a page of that class needs
-module _ {w : ℕ} {b m : List ℕ} {p s n : ℕ} (room : UseRoom w b m p s n) (q x c k : ℕ) (eq : q ≡ firstItemAt (shape w) p) (ex : x ≡ wordAt w b q) (ec : c ≡ classIn (shape w) x) (ek : k ≡ pageNeed (shape w) c) where
+module _ {w : ℕ} {b m : List ℕ} {p s n : ℕ} (room : PageRoom w b m p s n) (q x c k : ℕ) (eq : q ≡ firstItemAt (shape w) p) (ex : x ≡ wordAt w b q) (ec : c ≡ classIn (shape w) x) (ek : k ≡ pageNeed (shape w) c) where
   is-page : UseAt w b p s pageKind → PageIs w b p s c
   is-page u = rw (ec, ex, eq) (page-in (room .width) b p s u)
 
   few : c < shape w .classes
   few = rw ec (class-few (room .width) x)
 
-  pub page-small : s < k → (m′ : List ℕ) → UseTold w b m p s pageKind 0 m′
-  page-small h m′ =
-      record { is-no = λ _ u. omega (arith, is-page u .least-size, ek); is-yes = λ z. absurd (z refl); marking = λ z. absurd (z refl) }
+  pub page-small : s < k → (m′ : List ℕ) → PageTold w b m p s Unsound m′
+  page-small h m′ = record { is-no = λ _ u. omega (arith, is-page u .least-size, ek); is-yes = λ n y. absurd (no-count y) }
 
-  pub page-large : k + leastFree (shape w) ≤ s → (m′ : List ℕ) → UseTold w b m p s pageKind 0 m′
-  page-large h m′ =
-      record { is-no = λ _ u. omega (arith, is-page u .most-size, ek); is-yes = λ z. absurd (z refl); marking = λ z. absurd (z refl) }
+  pub page-large : k + leastFree (shape w) ≤ s → (m′ : List ℕ) → PageTold w b m p s Unsound m′
+  page-large h m′ = record { is-no = λ _ u. omega (arith, is-page u .most-size, ek); is-yes = λ n y. absurd (no-count y) }
 
-  module _ (l : k ≤ s) (stop : ℕ) (es : stop ≡ farTagAt (shape w) p k) where
-    pub page-room : MarkRoom w b m q stop c n
-    page-room =
-        record {
-          width = room .width;
-          class = few;
-          stops = omega (arith, eq, ek, es);
-          low = omega (arith, eq, room .low);
-          even = rw eq (first-even (room .width) p (room .eight));
-          inside = omega (arith, es, ek, room .inside);
-          map = omega (arith, es, ek, room .map);
-          marking = marking-on (omega arith) (room .marking);
-        }
+  -- its i items of size z stop at q + i * z
+  module _ (i z : ℕ) (ei : i ≡ shape w .perPage c) (ez : z ≡ itemSize (shape w) c) where
+    pub page-taken : 2 * w + i * z ≡ k
+    page-taken = page-product (room .width) c i z few ei ez .1 ∙ sym ek
 
-    pub page-told : s < k + leastFree (shape w) → (r : ℕ) (m′ : List ℕ) → ItemsTold w b m q stop c r m′ → UseTold w b m p s pageKind r m′
-    page-told h r m′ t =
-        record {
-          is-no = λ z u. t .is-no z (rw eq (is-page u .items));
-          is-yes = λ z. page-out (room .width) b p s c m m′ few (room .size-eight) (omega arith) (omega arith) (rw eq at (t .is-yes z));
-          marking = λ z. marking-on (omega (arith, es, ek)) (t .marking z);
-        }
+    module _ (l : k ≤ s) where
+      pub page-room : MarkRoom w b m q (q + i * z) c n
+      page-room =
+          record {
+            width = room .width;
+            class = few;
+            stops = rw (ei, ez) refl;
+            low = omega (arith, eq, room .low);
+            even = rw eq (first-even (room .width) p (room .eight));
+            inside = omega (arith, eq, page-taken, room .inside);
+            map = omega (arith, eq, page-taken, room .map);
+            marking = marking-on (omega arith) (room .marking);
+          }
 
--- a block in use
-module _ {w : ℕ} {b m : List ℕ} {p s kind n : ℕ} (room : UseRoom w b m p s n) where
-  pub used-small : kind ≡ variableKind → s < leastVariable (shape w) → (m′ : List ℕ) → UseTold w b m p s kind 0 m′
-  used-small e h m′ = rw e (record { is-no = λ _ u. omega (arith, variable-in b p s u); is-yes = λ z. absurd (z refl); marking = λ z. absurd (z refl) })
-
-  pub used-variable : kind ≡ variableKind → leastVariable (shape w) ≤ s → UseTold w b m p s kind n m
-  used-variable e h = rw e (record { is-no = λ z. absurd (marked-pos (room .marking .marked) z); is-yes = λ _. variable-out (room .width) b p s m (room .size-eight) h; marking = λ _. marking-on (omega arith) (room .marking) })
-
-  pub used-other : (kind ≡ variableKind → ⊥) → (kind ≡ pageKind → ⊥) → (m′ : List ℕ) → UseTold w b m p s kind 0 m′
-  used-other y z m′ = record { is-no = λ _ u. other-in b p s kind y z u; is-yes = λ z. absurd (z refl); marking = λ z. absurd (z refl) }
+      pub page-told : s < k + leastFree (shape w) → (r : Marks) (m′ : List ℕ) → ItemsTold w b m q (q + i * z) c r m′ → PageTold w b m p s r m′
+      page-told h r m′ t =
+          record {
+            is-no = λ y u. t .is-no y (rw eq (is-page u .items));
+            is-yes = λ n y. (page-out (room .width) b p s c m m′ few (room .size-eight) (omega arith) (omega arith) (rw eq at (t .is-yes n y .0)), marking-on (omega (arith, eq, page-taken)) (t .is-yes n y .1));
+          }

@@ -6,6 +6,7 @@ use native.Mathlib.Omega.{arith}
 use lib.Dec.{eqb}
 use borrow.Author.Tests.{eqb-true, eq-eqb}
 use Rattle.sound.specs.Tells.{Tells}
+use Rattle.sound.specs.declared.Marks.the-variants.{Unsound, Count}
 
 pub clash : (r : Bool) → r ≡ false → r ≡ true → ⊥
 clash r e f = let z : _≡_ {A = ℕ} 0 1 = ap (λ (x : Bool). cond x 1 0) (sym e ∙ f) in omega arith
@@ -23,3 +24,13 @@ tells-eq a b P f g = record { yes-is = λ e. f (eqb-true a b e); is-yes = λ p. 
 -- one that holds exactly where another does
 pub tells-so : {r : Bool} {P Q : Type 0} → (P → Q) → (Q → P) → Tells r P → Tells r Q
 tells-so f g t = record { yes-is = λ e. f (t .yes-is e); is-yes = λ q. t .is-yes (g q) }
+
+-- an answer that counts marks, or says that the heap is not sound
+pub no-count : {n : ℕ} → Unsound ≡ Count n → ⊥
+no-count {n} e = let z : _≡_ {A = ℕ} 0 1 = cc in omega arith
+
+pub count-no : {n : ℕ} → Count n ≡ Unsound → ⊥
+count-no {n} e = let z : _≡_ {A = ℕ} 0 1 = cc in omega arith
+
+pub count-same : {n k : ℕ} → Count n ≡ Count k → n ≡ k
+count-same e = cc

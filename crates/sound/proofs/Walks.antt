@@ -1,5 +1,5 @@
 -- Laws of a walk over the blocks: what the tests at a tag tell of a run, and a run made longer by the block before it.
-use Prim.Native.Nat.{ℕ, _+_, _-_, _*_, _%_, _≤_, _<_}
+use Prim.Native.Nat.{ℕ, _+_, _-_, _%_, _≤_, _<_}
 use mathlib.Core.Path.{_≡_, refl, sym, _∙_}
 use mathlib.Core.Bool.{Bool, true, false}
 use mathlib.Core.List.{List, [], _∷_}
@@ -17,8 +17,10 @@ use Rattle.model.proofs.Sizes.{start-eight}
 use Rattle.model.proofs.walks.Standing.{sizes}
 use Rattle.sound.specs.Onward.{useKind, UseAt, Reads, Onward, freeIn, freeItems}
 use Rattle.sound.specs.Maps.{NoMarks, mapEnd}
-use Rattle.sound.specs.Told.{Sizes, Marking, UseMarked, UseTold, BlocksMarked, BlocksTold}
-use Rattle.sound.proofs.MapLaws.{adds-none, adds-append, marked-none, marked-pos, marking-on}
+use Rattle.sound.specs.Told.{Sizes, Marking, UseMarked, BlocksMarked, BlocksTold}
+use Rattle.sound.specs.declared.Marks.the-variants.{Unsound, Count}
+use Rattle.sound.proofs.Tellings.{no-count, count-no, count-same}
+use Rattle.sound.proofs.MapLaws.{adds-none, adds-append, marked-none, marking-on}
 
 pub use-size : {w : ℕ} → Width w → (u : Use) → AllowedUse (shape w) u → (leastFree (shape w) ≤ useSize (shape w) u) × (useSize (shape w) u % 8 ≡ 0)
 unfolding Allowed sizeOf
@@ -54,7 +56,7 @@ module _ {w : ℕ} (wd : Width w) {b : List ℕ} {end p prev : ℕ} {touching : 
   stop-out m e l = record { onward = record { rest = []; reads = tt; fills = e; allowed = tt; apart = tt; links = sym l }; adds = adds-none wd m }
 
 -- what the tests at p find, where t is the tag there and s the size that it says
-pub record Passed (w : ℕ) (b : List ℕ) (end p prev : ℕ) (touching : Bool) (link t s : ℕ) : Type 0 where
+pub record BlockPassed (w : ℕ) (b : List ℕ) (end p prev : ℕ) (touching : Bool) (link t s : ℕ) : Type 0 where
   pub big : leastFree (shape w) ≤ s
   pub inside : p + s ≤ end
   pub tag : wordAt w b (farTagAt (shape w) p s) ≡ t
@@ -62,11 +64,11 @@ pub record Passed (w : ℕ) (b : List ℕ) (end p prev : ℕ) (touching : Bool) 
   pub when-used : (kindIn t ≡ freeKind → ⊥) → UseAt w b p s (kindIn t) × Onward w b end (p + s) prev false link
 
 module _ {w : ℕ} (wd : Width w) {b : List ℕ} {end p prev : ℕ} {touching : Bool} {link : ℕ} (t s : ℕ) (et : t ≡ wordAt w b p) (es : s ≡ sizeIn t) where
-  pub passed : p < end → Onward w b end p prev touching link → Passed w b end p prev touching link t s
+  pub passed : p < end → Onward w b end p prev touching link → BlockPassed w b end p prev touching link t s
   unfolding firstFree ends AllAllowed Allowed sizeOf Reads Apart
   passed q r = go (r .rest) (r .reads) (r .fills) (r .allowed) (r .apart) (r .links)
     where
-      go : (bs : List Block) → Reads w b p prev bs → ends (shape w) p bs ≡ end → AllAllowed (shape w) bs → Apart (flag touching) bs → firstFree (shape w) p bs 0 ≡ link → Passed w b end p prev touching link t s
+      go : (bs : List Block) → Reads w b p prev bs → ends (shape w) p bs ≡ end → AllAllowed (shape w) bs → Apart (flag touching) bs → firstFree (shape w) p bs 0 ≡ link → BlockPassed w b end p prev touching link t s
       go [] h f a n l = absurd (omega arith)
       go (free x ∷ bs) h f a n l =
           let e : s ≡ x = omega (arith, h .0 .0, a .0 .1) in
@@ -136,7 +138,7 @@ pub record BlocksInv (w : ℕ) (b : List ℕ) (end : ℕ) (m₀ m : List ℕ) (n
   pub map : end ≤ mapEnd w (length m)
   pub size : length m ≡ length m₀
 
-pub blocks-start : {w : ℕ} {b m : List ℕ} {end : ℕ} (link p : ℕ) → link ≡ wordAt w b (firstFreeAt (shape w)) → Sizes w b (length m) end → NoMarks w m 0 → p ≡ start (shape w) → BlocksInv w b end m m 1 p 0 false link
+pub blocks-start : {w : ℕ} {b m : List ℕ} {end : ℕ} (link p : ℕ) → link ≡ wordAt w b (firstFreeAt (shape w)) → Sizes w b (length m) end → NoMarks w m 0 → p ≡ start (shape w) → BlocksInv w b end m m 0 p 0 false link
 blocks-start {w} link p e z k f =
     rw (e, f) (record {
       width = z .width;
@@ -152,21 +154,16 @@ blocks-start {w} link p e z k f =
 
 module _ {w : ℕ} {b : List ℕ} {end : ℕ} {m₀ m : List ℕ} {n p prev : ℕ} {touching : Bool} {link : ℕ} (i : BlocksInv w b end m₀ m n p prev touching link) where
   -- at the end
-  pub blocks-yes : end ≤ p → link ≡ 0 → BlocksTold w b end m₀ n m
-  blocks-yes h e =
-      record {
-        is-no = λ z. absurd (marked-pos (i .marking .marked) z);
-        is-yes = λ _. i .back m (stop-out (i .width) m (omega (arith, i .inside)) e);
-        marked = λ _. i .marking .marked;
-      }
+  pub blocks-yes : end ≤ p → link ≡ 0 → BlocksTold w b end m₀ (Count n) m
+  blocks-yes h e = record { is-no = λ y. absurd (count-no y); is-yes = λ k y. rw (← count-same y) (i .back m (stop-out (i .width) m (omega (arith, i .inside)) e), i .marking .marked) }
 
-  pub blocks-open : (m′ : List ℕ) → end ≤ p → (link ≡ 0 → ⊥) → BlocksTold w b end m₀ 0 m′
-  blocks-open m′ h e = record { is-no = λ _ r. e (stop-in (i .width) (omega (arith, i .inside)) (i .ahead r)); is-yes = λ z. absurd (z refl); marked = λ z. absurd (z refl) }
+  pub blocks-open : (m′ : List ℕ) → end ≤ p → (link ≡ 0 → ⊥) → BlocksTold w b end m₀ Unsound m′
+  blocks-open m′ h e = record { is-no = λ _ r. e (stop-in (i .width) (omega (arith, i .inside)) (i .ahead r)); is-yes = λ n y. absurd (no-count y) }
 
   module _ (h : p < end) (t s : ℕ) (et : t ≡ wordAt w b p) (es : s ≡ sizeIn t) where
     -- a test that failed
-    pub blocks-no : (m′ : List ℕ) → (Passed w b end p prev touching link t s → ⊥) → BlocksTold w b end m₀ 0 m′
-    blocks-no m′ f = record { is-no = λ _ r. f (passed (i .width) t s et es h (i .ahead r)); is-yes = λ z. absurd (z refl); marked = λ z. absurd (z refl) }
+    pub blocks-no : (m′ : List ℕ) → (BlockPassed w b end p prev touching link t s → ⊥) → BlocksTold w b end m₀ Unsound m′
+    blocks-no m′ f = record { is-no = λ _ r. f (passed (i .width) t s et es h (i .ahead r)); is-yes = λ n y. absurd (no-count y) }
 
     module _ (big : leastFree (shape w) ≤ s) (within : p + s ≤ end) (tag : wordAt w b (farTagAt (shape w) p s) ≡ t) where
       pub blocks-free : kindIn t ≡ freeKind → touching ≡ false → link ≡ p → wordAt w b (previousAt (shape w) p s) ≡ prev → (x : ℕ) → x ≡ wordAt w b (nextAt (shape w) p) → BlocksInv w b end m₀ m n (p + s) p true x
@@ -183,19 +180,21 @@ module _ {w : ℕ} {b : List ℕ} {end : ℕ} {m₀ m : List ℕ} {n p prev : �
             size = i .size;
           })
 
-      pub blocks-used : (kindIn t ≡ freeKind → ⊥) → (m₁ : List ℕ) (r : ℕ) → length m₁ ≡ length m → UseTold w b m p s (kindIn t) r m₁ → (r ≡ 0 → ⊥) → BlocksInv w b end m₀ m₁ r (p + s) prev false link
-      blocks-used a m₁ r el u z =
+    -- a block in use of this kind: it is none, or it is marked
+    module _ (kind : ℕ) (ek : kindIn t ≡ kind) (in-use : kind ≡ freeKind → ⊥) where
+      pub blocks-wrong : (UseAt w b p s kind → ⊥) → (m′ : List ℕ) → BlocksTold w b end m₀ Unsound m′
+      blocks-wrong f m′ = blocks-no m′ (λ k. f (rw ek at (k .when-used (λ e. in-use (sym ek ∙ e)) .0)))
+
+      pub blocks-used : p + s ≤ end → wordAt w b (farTagAt (shape w) p s) ≡ t → (m₁ : List ℕ) (r : ℕ) → length m₁ ≡ length m → UseMarked w b p s kind m m₁ → Marking w m₁ r (p + s) → BlocksInv w b end m₀ m₁ r (p + s) prev false link
+      blocks-used within tag m₁ r el u k =
           record {
             width = i .width;
-            ahead = λ k. passed (i .width) t s et es h (i .ahead k) .when-used a .1;
-            back = λ m′ walk. i .back m′ (used-back (i .width) t s et es tag (u .is-yes z) walk);
+            ahead = λ v. passed (i .width) t s et es h (i .ahead v) .when-used (λ e. in-use (sym ek ∙ e)) .1;
+            back = λ m′ walk. i .back m′ (used-back (i .width) t s et es tag (rw ek u) walk);
             low = omega (arith, i .low);
             inside = within;
             eight = omega (arith, i .eight);
-            marking = u .marking z;
+            marking = k;
             map = rw el (i .map);
             size = el ∙ i .size;
           }
-
-      pub blocks-wrong : (kindIn t ≡ freeKind → ⊥) → (m₁ : List ℕ) (r : ℕ) → UseTold w b m p s (kindIn t) r m₁ → r ≡ 0 → (m′ : List ℕ) → BlocksTold w b end m₀ 0 m′
-      blocks-wrong a m₁ r u z m′ = blocks-no m′ (λ k. u .is-no z (k .when-used a .0))

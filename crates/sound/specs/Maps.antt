@@ -1,5 +1,5 @@
 -- The map of free items: it has a bit for each word of the heap, the mark of the item whose header stands there.
-use Prim.Native.Nat.{ℕ, suc, _+_, _*_, _/_, _≤_}
+use Prim.Native.Nat.{ℕ, _+_, _*_, _/_, _≤_}
 use mathlib.Core.Path.{_≡_}
 use mathlib.Core.List.{List}
 use lib.ListN.{length}
@@ -41,11 +41,11 @@ largeMap = 2048
 pub record Adds (w : ℕ) (m m′ l : List ℕ) : Type 0 where
   pub at : (j : ℕ) → bitAt m′ j ≡ bitAt m j + times (offsetAtBit w j) l
 
--- n is one more than the number of marks
+-- there are n marks
 pub record Marked (m : List ℕ) (n : ℕ) : Type 0 where
   pub list : List ℕ
   pub marks : (j : ℕ) → bitAt m j ≡ times j list
-  pub count : suc (length list) ≡ n
+  pub count : length list ≡ n
 
 -- there is no mark from position p on
 pub record NoMarks (w : ℕ) (m : List ℕ) (p : ℕ) : Type 0 where

@@ -1,5 +1,4 @@
 // The check of a heap: one walk over its blocks that marks the free items in a map of bits, and one pass over the item lists that counts the marked items.
-// What counts marks answers one more than their number, and 0 where the heap is not sound.
 use model::FREE;
 use model::ItemOffset;
 use model::MAGIC_BYTES;
@@ -24,6 +23,7 @@ use model::index_far_tag_at;
 use model::index_tag;
 use model::index_tag_at;
 use model::item_size;
+use model::items_in_page;
 use model::kind_in;
 use model::least_free;
 use model::least_variable;
@@ -44,13 +44,19 @@ ghost use Rattle.words.specs.Width.{Width};
 ghost use Rattle.words.specs.Word.{wordAt};
 ghost use Rattle.words.specs.Bits.{bitAt};
 ghost use Rattle.model.specs.Shape.{shape, start, leastFree};
-ghost use Rattle.model.specs.Parts.{pageKind, headAt, farTagAt, previousAt};
+ghost use Rattle.model.specs.Parts.{headAt, farTagAt, previousAt};
 ghost use Rattle.model.specs.Sound.{Sound};
 ghost use Rattle.model.specs.Calls.{Lent};
 ghost use Rattle.sound.specs.Tells.{Tells};
 ghost use Rattle.sound.specs.Maps.{Marked, NoMarks, itemBit, atBit, offsetBit, indexBit, mapEnd, smallMap, middleMap, largeMap};
 ghost use Rattle.sound.specs.Lists.{Listed, Filled};
-ghost use Rattle.sound.specs.Told.{Fixed, Sizes, MarkRoom, ItemsTold, UseRoom, UseTold, BlocksTold, ListTold};
+ghost use Rattle.sound.specs.Told.{Fixed, Sizes, MarkRoom, ItemsTold, PageRoom, PageTold, BlocksTold, ListTold};
+
+// How many marks there are, or that the heap is not sound.
+enum Marks {
+    Unsound,
+    Count(usize),
+}
 
 // The words of 64 bits of a map: it is cleared whole, so a small heap has a small one. The large one is enough for every heap.
 const SMALL: usize = 32;
@@ -99,7 +105,7 @@ fn mark_items(
     stop: Position,
     c: usize,
     before: usize,
-) -> usize
+) -> Marks
     requires { ⌜ MarkRoom w (now h) (now m) (first .0) (stop .0) c before ⌝ }
     ensures { λ r. ⌜ ItemsTold w (now (h .entry)) (now (m .entry)) (first .0) (stop .0) c r (now (m .exit)) ⌝ }
 {
@@ -114,54 +120,30 @@ fn mark_items(
             q = Position(q.0 + size);
         } else {
             if x != held_header(c) {
-                return 0;
+                return Marks::Unsound;
             }
             q = Position(q.0 + size);
         }
     }
-    n
+    Marks::Count(n)
 }
 
-// Marks the free items of a page of size s at p, of the class that its first header says. Where they stop, a page with no byte to spare would have its far tag.
-fn mark_page(w: usize, h: &[u8], m: &mut [u64], p: Position, s: usize, n: usize) -> usize
-    requires { ⌜ UseRoom w (now h) (now m) (p .0) s n ⌝ }
-    ensures { λ r. ⌜ UseTold w (now (h .entry)) (now (m .entry)) (p .0) s pageKind r (now (m .exit)) ⌝ }
+// Marks the free items of a page of size s at p, of the class that its first header says. What it has to spare is less than the least free block.
+fn mark_page(w: usize, h: &[u8], m: &mut [u64], p: Position, s: usize, before: usize) -> Marks
+    requires { ⌜ PageRoom w (now h) (now m) (p .0) s before ⌝ }
+    ensures { λ r. ⌜ PageTold w (now (h .entry)) (now (m .entry)) (p .0) s r (now (m .exit)) ⌝ }
 {
     let first = first_item_at(w, p);
     let c = class_in(w, word(w, h, first.0));
     let need = page_need(w, c);
     if s < need {
-        return 0;
+        return Marks::Unsound;
     }
     if need + least_free(w) <= s {
-        return 0;
+        return Marks::Unsound;
     }
-    mark_items(w, h, m, first, far_tag_at(w, p, need), c, n)
-}
-
-// Marks the free items of a block in use of size s at p: a variable block has none.
-fn mark_used(
-    w: usize,
-    h: &[u8],
-    m: &mut [u64],
-    p: Position,
-    s: usize,
-    kind: usize,
-    n: usize,
-) -> usize
-    requires { ⌜ UseRoom w (now h) (now m) (p .0) s n ⌝ }
-    ensures { λ r. ⌜ UseTold w (now (h .entry)) (now (m .entry)) (p .0) s kind r (now (m .exit)) ⌝ }
-{
-    if kind == VARIABLE {
-        if s < least_variable(w) {
-            return 0;
-        }
-        return n;
-    }
-    if kind != PAGE {
-        return 0;
-    }
-    mark_page(w, h, m, p, s, n)
+    let stop = Position(first.0 + items_in_page(w, c) * item_size(w, c));
+    mark_items(w, h, m, first, stop, c, before)
 }
 
 // Whether a block with tag t and size s can stand at p: it is large enough, ends by the end, and has the same tag there.
@@ -201,11 +183,11 @@ fn links_right(
 }
 
 // Marks the free items of all blocks, which have to fill the area from the start of the data area to the end: prev is the last free block, touching says whether the walk stands right behind it, and link is where the next one must be.
-fn mark_blocks(w: usize, h: &[u8], m: &mut [u64], end: Position) -> usize
+fn mark_blocks(w: usize, h: &[u8], m: &mut [u64], end: Position) -> Marks
     requires { ⌜ Sizes w (now h) (length (now m)) (end .0) × NoMarks w (now m) 0 ⌝ }
     ensures { λ r. ⌜ BlocksTold w (now (h .entry)) (end .0) (now (m .entry)) r (now (m .exit)) ⌝ }
 {
-    let mut n = 1;
+    let mut n = 0;
     let mut p = start(w);
     let mut prev = Position(0);
     let mut touching = false;
@@ -214,43 +196,55 @@ fn mark_blocks(w: usize, h: &[u8], m: &mut [u64], end: Position) -> usize
         let t = word(w, h, p.0);
         let s = size_in(t);
         if !tags_right(w, h, end, p, t, s) {
-            return 0;
+            return Marks::Unsound;
         }
-        let kind = kind_in(t);
-        if kind == FREE {
-            if !links_right(w, h, p, s, prev, touching, link) {
-                return 0;
+        match kind_in(t) {
+            VARIABLE => {
+                if s < least_variable(w) {
+                    return Marks::Unsound;
+                }
+                touching = false;
+                p = Position(p.0 + s);
             }
-            link = Position(word(w, h, next_at(w, p).0));
-            prev = p;
-            touching = true;
-            p = Position(p.0 + s);
-        } else {
-            n = mark_used(w, h, m, p, s, kind, n);
-            if n == 0 {
-                return 0;
+            PAGE => {
+                let Marks::Count(more) = mark_page(w, h, m, p, s, n) else {
+                    return Marks::Unsound;
+                };
+                n = more;
+                touching = false;
+                p = Position(p.0 + s);
             }
-            touching = false;
-            p = Position(p.0 + s);
+            FREE => {
+                if !links_right(w, h, p, s, prev, touching, link) {
+                    return Marks::Unsound;
+                }
+                link = Position(word(w, h, next_at(w, p).0));
+                prev = p;
+                touching = true;
+                p = Position(p.0 + s);
+            }
+            _ => {
+                return Marks::Unsound;
+            }
         }
     }
     if link.0 != 0 {
-        return 0;
+        return Marks::Unsound;
     }
-    n
+    Marks::Count(n)
 }
 
 // Counts down from before by the items on the list of class c: refuses an item without a mark, and an item more than there are marks, so a ring too. An item is carried as its bit; that of offset 0, the end of a list, has no mark.
-fn count_list(w: usize, h: &[u8], m: &[u64], end: Position, c: usize, before: usize) -> usize
-    requires { ⌜ Sizes w (now h) (length (now m)) (end .0) × (1 ≤ before) × (c < shape w .classes) × (bitAt (now m) (indexBit w) ≡ 0) ⌝ }
+fn count_list(w: usize, h: &[u8], m: &[u64], end: Position, c: usize, before: usize) -> Marks
+    requires { ⌜ Sizes w (now h) (length (now m)) (end .0) × (c < shape w .classes) × (bitAt (now m) (indexBit w) ≡ 0) ⌝ }
     ensures { λ r. ⌜ ListTold w (now (h .entry)) (end .0) c (wordAt w (now (h .entry)) (headAt (shape w) c)) (now (m .entry)) before r ⌝ }
 {
     let head = ItemOffset(word(w, h, head_at(w, c).0));
     if head.0 == 0 {
-        return before;
+        return Marks::Count(before);
     }
     if head.0 % w != 0 {
-        return 0;
+        return Marks::Unsound;
     }
     let none = item_bit(w, index(w));
     let top = item_bit(w, end);
@@ -258,21 +252,21 @@ fn count_list(w: usize, h: &[u8], m: &[u64], end: Position, c: usize, before: us
     let mut i = offset_bit(w, head);
     loop {
         if top <= i {
-            return 0;
+            return Marks::Unsound;
         }
         if bits::test(m, i) == 0 {
             if i != none {
-                return 0;
+                return Marks::Unsound;
             }
-            return n;
+            return Marks::Count(n);
         }
-        let x = word(w, h, at_bit(w, i).0);
-        if class_and_flags(w, x) != free_mark(c) {
-            return 0;
+        if n == 0 {
+            return Marks::Unsound;
         }
         n -= 1;
-        if n == 0 {
-            return 0;
+        let x = word(w, h, at_bit(w, i).0);
+        if class_and_flags(w, x) != free_mark(c) {
+            return Marks::Unsound;
         }
         i = offset_bit(w, next_in(w, x));
     }
@@ -283,16 +277,16 @@ fn count_lists(w: usize, h: &[u8], m: &[u64], end: Position, before: usize) -> b
     requires { ⌜ Sizes w (now h) (length (now m)) (end .0) × Marked (now m) before × (bitAt (now m) (indexBit w) ≡ 0) ⌝ }
     ensures { λ r. ⌜ Tells r (Listed w (now (h .entry)) (end .0) (now (m .entry))) ⌝ }
 {
-    let mut n = before;
+    let mut left = before;
     let mut c = 0;
     while c < classes(w) {
-        n = count_list(w, h, m, end, c, n);
-        if n == 0 {
+        let Marks::Count(n) = count_list(w, h, m, end, c, left) else {
             return false;
-        }
+        };
+        left = n;
         c += 1;
     }
-    n == 1
+    left == 0
 }
 
 // Whether blocks and lists are right. The map is clear, and has a bit for every word of the heap.
@@ -300,10 +294,9 @@ fn is_filled(w: usize, h: &[u8], m: &mut [u64], end: Position) -> bool
     requires { ⌜ Sizes w (now h) (length (now m)) (end .0) × NoMarks w (now m) 0 ⌝ }
     ensures { λ r. ⌜ Tells r (Filled w (now (h .entry)) (end .0)) ⌝ }
 {
-    let n = mark_blocks(w, h, m, end);
-    if n == 0 {
+    let Marks::Count(n) = mark_blocks(w, h, m, end) else {
         return false;
-    }
+    };
     count_lists(w, h, m, end, n)
 }
 

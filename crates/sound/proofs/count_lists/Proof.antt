@@ -1,7 +1,8 @@
 use native.Mathlib.Omega.{arith}
-use Rattle.sound.proofs.Counting.{ListsInv, lists-start, lists-fail, lists-turn, lists-yes, lists-one, listed-passed, passed-listed}
-use Rattle.sound.proofs.Tellings.{tells-no, tells-eq, tells-so}
+use Rattle.sound.proofs.Counting.{ListsInv, lists-start, lists-fail, lists-turn, lists-yes, lists-none, listed-passed, passed-listed}
+use Rattle.sound.proofs.Tellings.{tells-no}
 use Rattle.model.specs.Shape.{shape}
+use borrow.Author.Tests.{eqb-true, eq-eqb}
 use mathlib.Core.Path.{refl}
 use Prim.Native.Nat.{_-_, _<_, _≤_}
 use borrow.Author.Needs.{needs}
@@ -9,41 +10,51 @@ use Rattle.sound.proofs.count_lists.Statement.{statement}
 use Rattle.sound.proofs.count_lists.Tie as tie
 
 abbrev Inv-loop : tie.InvT-loop
-Inv-loop w h m end before n₀ c₀ n c = ListsInv w h (end .0) m before n c
+Inv-loop w h m end before left₀ c₀ left c = ListsInv w h (end .0) m before left c
 
 abbrev μ-loop : tie.MeasureT-loop
-μ-loop w h m end before n₀ c₀ n c = shape w .classes - c
+μ-loop w h m end before left₀ c₀ left c = shape w .classes - c
 
 loop-holds : tie.Need-loop-holds Inv-loop μ-loop
 loop-holds c = lists-start (c .before .before .pre .0 .width) (c .before .before .pre .1)
+
+classes-requires : tie.Need-classes-requires Inv-loop μ-loop
+classes-requires c κs = search needs
 
 -- a class is left, or none is
 some : (c : tie.Then1 Inv-loop μ-loop) → c .before .before .loop .c < shape (c .before .before .before .before .before .args .w) .classes
 some c = omega (arith, c .before .classes .ensures, c .if1 .taken)
 
+count-list-requires : tie.Need-count-list-requires Inv-loop μ-loop
+count-list-requires c κs = (c .before .before .before .before .before .pre .0, some c, c .before .before .before .before .before .pre .2)
+
+enum-known-n : tie.Need-enum-known-n Inv-loop μ-loop
+enum-known-n c = search needs
+
+enum-told : tie.Need-enum-told Inv-loop μ-loop
+enum-told c = search needs
+
+returns : tie.Need-returns Inv-loop μ-loop
+returns c = tells-no _ (λ v. lists-fail (c .before .before .before .before .before .loop .inv) (some (c .before .before .before)) _ refl _ (c .before .before .count-list .ensures) (c .enum-told .given .1) (listed-passed (c .before .before .before .before .before .before .before .before .pre .0 .width) (c .before .before .before .before .before .before .before .before .pre .1) v))
+
+add-c : tie.Need-add-c Inv-loop μ-loop
+add-c c = omega (arith, some (c .before .before .before .before), c .before .before .before .before .before .before .before .before .before .pre .0 .width)
+
+loop-less : tie.Need-loop-less Inv-loop μ-loop
+loop-less c = omega (arith, some (c .before .before .before .before))
+
+loop-again : tie.Need-loop-again Inv-loop μ-loop
+loop-again c = lists-turn (c .before .before .before .before .before .before .loop .inv) (some (c .before .before .before .before)) _ refl _ _ (c .before .before .before .count-list .ensures) (c .before .n .given .1)
+
 none : (c : tie.Else1 Inv-loop μ-loop) → shape (c .before .before .before .before .before .args .w) .classes ≤ c .before .before .loop .c
 none c = omega (arith, c .before .classes .ensures, c .if1 .left)
 
-classes-requires : tie.Need-classes-requires Inv-loop μ-loop
-classes-requires c κs = search needs
-
-count-list-requires : tie.Need-count-list-requires Inv-loop μ-loop
-count-list-requires c κs = (c .before .before .before .before .before .pre .0, c .before .before .loop .inv .some, some c, c .before .before .before .before .before .pre .2)
-
-returns : tie.Need-returns Inv-loop μ-loop
-returns c = tells-no _ (λ v. lists-fail (c .before .before .before .before .loop .inv) (some (c .before .before)) _ refl _ (c .before .count-list .ensures) (c .if2 .taken) (listed-passed (c .before .before .before .before .before .before .before .pre .0 .width) (c .before .before .before .before .before .before .before .pre .1) v))
-
-add-c : tie.Need-add-c Inv-loop μ-loop
-add-c c = omega (arith, some (c .before .before), c .before .before .before .before .before .before .before .pre .0 .width)
-
-loop-less : tie.Need-loop-less Inv-loop μ-loop
-loop-less c = omega (arith, some (c .before .before))
-
-loop-again : tie.Need-loop-again Inv-loop μ-loop
-loop-again c = lists-turn (c .before .before .before .before .loop .inv) (some (c .before .before)) _ refl _ (c .before .count-list .ensures) (c .if2 .left)
-
 returns-2 : tie.Need-returns-2 Inv-loop μ-loop
-returns-2 c = tells-so (passed-listed (c .before .before .before .before .before .pre .0 .width) (c .before .before .before .before .before .pre .1)) (listed-passed (c .before .before .before .before .before .pre .0 .width) (c .before .before .before .before .before .pre .1)) (tells-eq _ _ _ (lists-yes (c .before .before .loop .inv) (none c)) (lists-one (c .before .before .loop .inv) (none c)))
+returns-2 c =
+    record {
+      yes-is = λ t. passed-listed (c .before .before .before .before .before .pre .0 .width) (c .before .before .before .before .before .pre .1) (lists-yes (c .before .before .loop .inv) (none c) (omega (arith, eqb-true)));
+      is-yes = λ v. eq-eqb (c .before .before .loop .left) 0 (omega (arith, lists-none (c .before .before .loop .inv) (none c) (listed-passed (c .before .before .before .before .before .pre .0 .width) (c .before .before .before .before .before .pre .1) v)));
+    }
 
 pub count-lists-spec : {M : Type 1} → statement M
 count-lists-spec =
@@ -54,6 +65,8 @@ count-lists-spec =
     loop-holds
     classes-requires
     count-list-requires
+    enum-known-n
+    enum-told
     returns
     add-c
     loop-less

@@ -48,9 +48,6 @@ word-requires-4 c κs = search needs
 returns-4 : tie.Need-returns-4
 returns-4 c = tells-no _ (λ f. c .if4 .taken (read-at _ _ (c .before .before .word4 .ensures) (c .before .before .before .end-at .ensures) ∙ f .end-at))
 
-returns-5 : tie.Need-returns-5
-returns-5 c = tells-no _ (λ f. c .if5 .taken (read-at _ _ (c .before .before .word5 .ensures) (c .before .before .before .index-tag-at .ensures) ∙ f .low-tag ∙ sym (c .before .index-tag .ensures)))
-
 index-tag-at-requires : tie.Need-index-tag-at-requires
 index-tag-at-requires c κs = search needs
 
@@ -59,6 +56,9 @@ word-requires-5 c κs = search needs
 
 index-tag-requires : tie.Need-index-tag-requires
 index-tag-requires c κs = c .before .before .before .before .before .before .before .before .before .before .before .before .before .before .before .before .before .before .before .before .pre .0
+
+returns-5 : tie.Need-returns-5
+returns-5 c = tells-no _ (λ f. c .if5 .taken (read-at _ _ (c .before .before .word5 .ensures) (c .before .before .before .index-tag-at .ensures) ∙ f .low-tag ∙ sym (c .before .index-tag .ensures)))
 
 index-far-tag-at-requires : tie.Need-index-far-tag-at-requires
 index-far-tag-at-requires c κs = c .before .before .before .before .before .before .before .before .before .before .before .before .before .before .before .before .before .before .before .before .before .before .pre .0

@@ -1,5 +1,3 @@
-use Prim.Native.Nat.{ℕ, _≤_}
-use Rattle.model.specs.Shape.{shape, endOf, shortest}
 use Rattle.model.proofs.Sizes.{end-room, most-bound}
 use native.Mathlib.Omega.{arith}
 use Rattle.sound.proofs.HereFilled.{sound-fixed, sound-filled}

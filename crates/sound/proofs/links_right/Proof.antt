@@ -1,6 +1,6 @@
 use Rattle.sound.proofs.Places.{read-at}
-use Rattle.sound.proofs.Tellings.{clash, tells-no, tells-eq}
-use mathlib.Core.Path.{sym, _∙_}
+use Rattle.sound.proofs.Tellings.{clash, tells-no}
+use borrow.Author.Tests.{eqb-true, eq-eqb}
 use native.Mathlib.Omega.{arith}
 use borrow.Author.Needs.{needs}
 use Rattle.sound.proofs.links_right.Statement.{statement}
@@ -19,7 +19,11 @@ word-requires : tie.Need-word-requires
 word-requires c κs = search needs
 
 returns-3 : tie.Need-returns-3
-returns-3 c = tells-eq _ _ _ (λ e. (c .before .before .before .before .before .before .if1 .left, c .before .before .before .if2 .left, sym (read-at _ _ (c .before .word .ensures) (c .before .before .previous-at .ensures)) ∙ e)) (λ y. read-at _ _ (c .before .word .ensures) (c .before .before .previous-at .ensures) ∙ y .2)
+returns-3 c =
+    record {
+      yes-is = λ t. (c .before .before .before .before .before .before .if1 .left, c .before .before .before .if2 .left, omega (arith, eqb-true, read-at _ _ (c .before .word .ensures) (c .before .before .previous-at .ensures)));
+      is-yes = λ y. eq-eqb (c .before .word .result) (c .before .before .before .before .before .before .before .before .args .prev .0) (omega (arith, y .2, read-at _ _ (c .before .word .ensures) (c .before .before .previous-at .ensures)));
+    }
 
 pub links-right-spec : {M : Type 1} → statement M
 links-right-spec =

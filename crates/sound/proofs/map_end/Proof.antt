@@ -3,19 +3,13 @@ use borrow.Author.Needs.{needs}
 use Rattle.sound.proofs.Places.{map-end-least}
 use Rattle.sound.proofs.map_end.Statement.{statement}
 use Rattle.sound.proofs.map_end.Tie as tie
-use Rattle.sound.proofs.map_end.Reads as reads
-use Rattle.sound.proofs.map_end.Lts as lts
-use Rattle.sound.proofs.at_bit.Reads as at-bit-reads
 
--- src/lib.rt:89:15
 mul-at-bit : tie.Need-mul-at-bit
 mul-at-bit c = omega (arith, map-end-least (c .pre .0) (c .args .words))
 
--- src/lib.rt:89:5
 at-bit-requires : tie.Need-at-bit-requires
 at-bit-requires c κs = search needs
 
--- src/lib.rt:85:1
 returns : tie.Need-returns
 returns c = search needs
 

@@ -3,28 +3,19 @@ use borrow.Author.Needs.{needs}
 use Rattle.sound.proofs.Places.{offset-bit-is}
 use Rattle.sound.proofs.offset_bit.Statement.{statement}
 use Rattle.sound.proofs.offset_bit.Tie as tie
-use Rattle.sound.proofs.offset_bit.Reads as reads
-use Rattle.sound.proofs.offset_bit.Lts as lts
-use Rattle.model.proofs.index.Reads as index-reads
-use Rattle.sound.proofs.item_bit.Reads as item-bit-reads
 
--- src/lib.rt:81:5
 div-result : tie.Need-div-result
 div-result c = search needs
 
--- src/lib.rt:81:27
 index-requires : tie.Need-index-requires
 index-requires c κs = search needs
 
--- src/lib.rt:81:15
 item-bit-requires : tie.Need-item-bit-requires
 item-bit-requires c κs = search needs
 
--- src/lib.rt:81:5
 add-result : tie.Need-add-result
 add-result c = omega (arith, offset-bit-is (c .before .before .before .pre) (c .before .before .before .args .o .0) _ _ (c .before .index .ensures) (c .item-bit .ensures) .1)
 
--- src/lib.rt:77:1
 returns : tie.Need-returns
 returns c = offset-bit-is (c .before .before .before .pre) _ _ _ (c .before .index .ensures) (c .item-bit .ensures) .0
 

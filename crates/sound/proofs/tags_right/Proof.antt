@@ -1,6 +1,6 @@
 use Rattle.sound.proofs.Places.{read-at}
-use Rattle.sound.proofs.Tellings.{tells-no, tells-eq}
-use mathlib.Core.Path.{sym, _∙_}
+use Rattle.sound.proofs.Tellings.{tells-no}
+use borrow.Author.Tests.{eqb-true, eq-eqb}
 use native.Mathlib.Omega.{arith}
 use borrow.Author.Needs.{needs}
 use Rattle.sound.proofs.tags_right.Statement.{statement}
@@ -25,7 +25,11 @@ word-requires : tie.Need-word-requires
 word-requires c κs = search needs
 
 returns-3 : tie.Need-returns-3
-returns-3 c = tells-eq _ _ _ (λ e. (omega (arith, c .before .before .before .before .before .if1 .left, c .before .before .before .before .before .before .least-free .ensures), omega (arith, c .before .before .if2 .left), sym (read-at _ _ (c .word .ensures) (c .before .far-tag-at .ensures)) ∙ e)) (λ y. read-at _ _ (c .word .ensures) (c .before .far-tag-at .ensures) ∙ y .2)
+returns-3 c =
+    record {
+      yes-is = λ z. (omega (arith, c .before .before .before .before .before .if1 .left, c .before .before .before .before .before .before .least-free .ensures), omega (arith, c .before .before .if2 .left), omega (arith, eqb-true, read-at _ _ (c .word .ensures) (c .before .far-tag-at .ensures)));
+      is-yes = λ y. eq-eqb (c .word .result) (c .before .before .before .before .before .before .before .before .args .t) (omega (arith, y .2, read-at _ _ (c .word .ensures) (c .before .far-tag-at .ensures)));
+    }
 
 pub tags-right-spec : {M : Type 1} → statement M
 tags-right-spec =
