@@ -16,10 +16,10 @@ use model::Address;
 use model::BAD_LENGTH;
 use model::BAD_SIZE;
 use model::MAGIC_BYTES;
+use model::NO_ROOM;
 use model::NOT_LIVE;
 use model::NOT_OPENED;
 use model::NOT_SOUND;
-use model::NO_ROOM;
 use model::longest;
 use model::magic;
 use model::shortest;
@@ -35,7 +35,7 @@ ghost use Rattle.sound.specs.Tells.{Tells};
 ghost use Rattle.heap.specs.Answers.{Examined, answerOf, resizedAs, outcome, refusalNumber};
 
 // The bytes of a word of document 01's heap.
-const WORD: usize = 8;
+pub const WORD: usize = 8;
 
 // Why a call says no, in the order of document 01's numbers, 1 to 7.
 pub enum Refusal {
@@ -100,7 +100,7 @@ pub fn initialise(h: &mut [u8]) -> Answer
 }
 
 // The length, the first 8 bytes, and soundness, in that order.
-fn examine(h: &[u8]) -> Verdict
+pub fn examine(h: &[u8]) -> Verdict
     ensures { λ r. ⌜ Examined (now (h .entry)) r ⌝ }
 {
     if !is_lent(h) {

@@ -54,11 +54,17 @@ pub fn item_at(w: usize, o: ItemOffset) -> Position
 
 // What a call may say no with, by document 01's numbers.
 pub const BAD_LENGTH: u64 = 1;
+
 pub const NOT_OPENED: u64 = 2;
+
 pub const NOT_SOUND: u64 = 3;
+
 pub const BAD_SIZE: u64 = 4;
+
 pub const NOT_LIVE: u64 = 5;
+
 pub const NO_ROOM: u64 = 6;
+
 pub const ALREADY_OPENED: u64 = 7;
 
 // A heap of either width begins with eight bytes; as one word of eight bytes they are its magic number.
@@ -82,10 +88,13 @@ pub fn shortest(w: usize) -> usize
     start(w).0 + least_free(w)
 }
 
+// The bytes of the longest heap that there is: an array's length is a constant.
+pub const MOST_BYTES: usize = 1048576;
+
 pub fn longest(w: usize) -> usize
     ensures { λ r. ⌜ r ≡ shape w .most ⌝ }
 {
-    if w == 8 { 1048576 } else { 65536 }
+    if w == 8 { MOST_BYTES } else { 65536 }
 }
 
 // The end of a heap of n bytes.

@@ -1,5 +1,6 @@
-mod ReadingLaws
+pub mod ReadingLaws
 mod CountLaws
 pub mod TableLaws
 mod SteppingLaws
+pub mod BlockLaws
 mod HoldingLaws

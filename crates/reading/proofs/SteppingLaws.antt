@@ -20,8 +20,7 @@ use Rattle.model.specs.inner.Walks.{lastFree, Passed}
 use Rattle.model.proofs.walks.Standing.{sized, size-is, there, met, is-variable, is-free}
 use Rattle.model.proofs.walks.Passing.{pass-start, stands, pass}
 use Rattle.model.proofs.walks.Steps.{step-here, step-over, step-below, walk-ends}
-use Rattle.reading.specs.Counting.{Going}
-use Rattle.reading.specs.Stepping.{Toward, Towards, StartTold}
+use Rattle.reading.specs.Stepping.{Toward, Towards, WalkAt, StartTold}
 use Rattle.reading.proofs.ReadingLaws.{page-class, page-there, there-at}
 
 pub toward-start : {w : ℕ} → Width w → (b : List ℕ) (at p : ℕ) → p ≡ start (shape w) → Sound (shape w) b → Towards w b at p
@@ -81,6 +80,10 @@ module _ {w : ℕ} {b : List ℕ} {at p : ℕ} (g : Towards w b at p) where
                   ∙ ap₂ (λ (y z : ℕ). stepFrom (shape w) at (p + y) z (x .after)) size (sym prev);
             }
 
+-- a walk that has come to at stands there
+pub walk-come : {w : ℕ} {b : List ℕ} {at : ℕ} → Towards w b at at → WalkAt w b at
+walk-come g = record { width = g .width; sound = g .sound; gone = λ L h. record { pre = g .toward L h .pre; rest = g .toward L h .rest; passed = g .toward L h .passed; so-far = refl } }
+
 -- the walk has come to at, where a block begins
 module _ {w : ℕ} {b : List ℕ} {at : ℕ} (g : Towards w b at at) (t : ℕ) (e : t ≡ wordAt w b at) (l : at < endOf (length b)) where
   -- s is the size that its tag says
@@ -110,11 +113,8 @@ module _ {w : ℕ} {b : List ℕ} {at : ℕ} (g : Towards w b at at) (t : ℕ) (
 
     pub met-page : (kindIn t ≡ freeKind → ⊥) → (kindIn t ≡ variableKind → ⊥) → (f d : ℕ) → f ≡ wordAt w b (firstItemAt (shape w) at) → d ≡ classIn (shape w) f
         → record { position = at; size = s; kind = aPage d; next = at + s } ≡ step (shape w) at L
-    unfolding sizeOf kindOf
+    unfolding sizeOf kindOf walk-come
     met-page z y f d ef ed =
-        let q = page-there (λ (l : List Block). tt) going t e l z y L h in
+        let q = page-there (λ (l : List Block). tt) (walk-come g) t e l z y L h in
         met-is (used (page (q .class) (q .spare) (q .slots))) (q .after) (q .rest) (aPage d)
-        (ap aPage (page-class (there-at (λ (l : List Block). tt) going t e l z y L h) f d ef ed)) (q .size)
-      where
-        going : Going {A = Unit {0}} w (λ (l : List Block). tt) b at tt
-        going = record { width = g .width; sound = g .sound; gone = λ L h. record { pre = g .toward L h .pre; rest = g .toward L h .rest; passed = g .toward L h .passed; so-far = refl } }
+        (ap aPage (page-class (there-at (λ (l : List Block). tt) (walk-come g) t e l z y L h) f d ef ed)) (q .size)

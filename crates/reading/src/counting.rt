@@ -85,7 +85,7 @@ fn count_held(w: usize, h: &[u8], first: Position, c: usize, n: usize) -> u64
 }
 
 // The page at p.
-fn page_at(w: usize, h: &[u8], p: Position) -> Page
+pub fn page_at(w: usize, h: &[u8], p: Position) -> Page
     requires { ⌜ AtPage w (now h) (p .0) ⌝ }
     ensures { λ r. ⌜ ((c k : ℕ) (ss : List Slot) → PageAt w (now (h .entry)) (p .0) c k ss → PageTold r c ss) ⌝ }
 {

@@ -12,11 +12,12 @@ use model::size_in;
 use model::start;
 use words::word;
 ghost use mathlib.Core.Path.{_≡_};
-ghost use Prim.Native.Nat.{ℕ};
+ghost use Prim.Native.Nat.{ℕ, _<_};
+ghost use lib.ListN.{length};
 ghost use Rattle.words.specs.Width.{Width};
-ghost use Rattle.model.specs.Shape.{shape};
+ghost use Rattle.model.specs.Shape.{shape, endOf};
 ghost use Rattle.model.specs.Sound.{Sound};
-ghost use Rattle.reading.specs.Stepping.{StartTold, Meets, toldBlock};
+ghost use Rattle.reading.specs.Stepping.{StartTold, WalkAt, BlockRead, Meets, toldBlock};
 ghost use Rattle.model.specs.Reading.{ended};
 
 // What a block is: free, with its next and its previous free block; variable; a page, with its class; or there is none.
@@ -61,14 +62,11 @@ pub fn no_block() -> MetBlock
     }
 }
 
-// The block that begins at `at`, or none.
-pub fn meet(w: usize, h: &[u8], at: Position) -> MetBlock
-    requires { ⌜ Width w × Sound (shape w) (now h) ⌝ }
-    ensures { λ r. ⌜ Meets w (now (h .entry)) (at .0) r ⌝ }
+// The block at which a walk stands. The walk stands behind it next, so that a loop over all blocks is one walk.
+pub fn block_at(w: usize, h: &[u8], at: Position) -> MetBlock
+    requires { ⌜ WalkAt w (now h) (at .0) × (at .0 < endOf (length (now h))) ⌝ }
+    ensures { λ r. ⌜ BlockRead w (now (h .entry)) (at .0) r ⌝ }
 {
-    if !starts(w, h, at) {
-        return no_block();
-    }
     let t = word(w, h, at.0);
     let size = size_in(t);
     let kind = kind_in(t);
@@ -97,4 +95,15 @@ pub fn meet(w: usize, h: &[u8], at: Position) -> MetBlock
         size: size,
         kind: Kind::Page { class: class },
     }
+}
+
+// The block that begins at `at`, or none.
+pub fn meet(w: usize, h: &[u8], at: Position) -> MetBlock
+    requires { ⌜ Width w × Sound (shape w) (now h) ⌝ }
+    ensures { λ r. ⌜ Meets w (now (h .entry)) (at .0) r ⌝ }
+{
+    if !starts(w, h, at) {
+        return no_block();
+    }
+    block_at(w, h, at)
 }
