@@ -9,7 +9,7 @@ SEED ?= 1
 
 LIBRARY = target/staticlib/libhost.a
 
-.PHONY: test run lib example compare compare-twin bench
+.PHONY: test run show show-heap lib example compare compare-twin bench
 
 # The last step is the gate: its last line, 'N passed, 0 failed', is the last line of all.
 test: compare example
@@ -21,6 +21,17 @@ run:
 	@rt check calls > target/run.log 2>&1 || { cat target/run.log; exit 1; }
 	@tail -n 1 target/run.log
 	@tools/chost -r target/bin/calls < $(or $(LIST),crates/calls/stdin)
+
+# The report on a heap, proved and then run on an example, or on the file that HEAP names.
+show:
+	@mkdir -p target
+	@rt check show > target/show.log 2>&1 || { cat target/show.log; exit 1; }
+	@tail -n 1 target/show.log
+	@tools/chost -r target/bin/show < $(or $(HEAP),crates/show/stdin)
+
+# That example, and the report that the second program gives on it: the gate holds the program to it.
+show-heap:
+	python3 compare/report.py --make crates/show/stdin crates/show/stdout
 
 # The archive for C, in target/staticlib.
 lib:

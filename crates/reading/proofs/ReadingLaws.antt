@@ -52,7 +52,7 @@ held-turn w b c q left l = go (left - 1) (omega arith) refl
     go : (k : ℕ) → left ≡ suc k → left - 1 ≡ k → heldFrom w b c q left ≡ cond (eqb (wordAt w b q) (heldHeader c)) 1 0 + heldFrom w b c (q + itemSize (shape w) c) (left - 1)
     go k e f = rw (f, e)
 
-one-less : (left s : ℕ) → (left ≡ 0 → ⊥) → s + (left - 1) * s ≡ left * s
+pub one-less : (left s : ℕ) → (left ≡ 0 → ⊥) → s + (left - 1) * s ≡ left * s
 one-less left s l = go (left - 1) (omega arith) refl
   where
     go : (k : ℕ) → left ≡ suc k → left - 1 ≡ k → s + (left - 1) * s ≡ left * s

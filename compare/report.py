@@ -1,0 +1,112 @@
+#!/usr/bin/env python3
+"""What the program `show` must print of a heap, by the second program.
+
+  report.py HEAP             prints the report on the heap in a file
+  report.py --make HEAP REPORT   writes a heap with every kind of block, and the report on it
+"""
+
+import sys
+
+sys.dont_write_bytecode = True
+from second import CLASSES, DATA_AREA, FREE, LONGEST, PAGE, VARIABLE, Heap, item_size
+
+NAMES = {1: "bad length", 2: "not opened", 3: "not sound"}
+STATISTICS = ("free bytes", "free blocks", "largest free block", "variable blocks", "pages", "live items")
+CHARACTERS, COLUMNS = 1024, 64
+
+
+def held_in(state, page):
+    return sum(item in state.item_class for item in state.items_of_page(page))
+
+
+def class_lines(table):
+    return [f"{c} {item_size(c) - 8} {pages} {live} {free}" for c, (pages, live, free) in enumerate(table) if pages]
+
+
+def block_line(state, answer):
+    what, position, size, *rest = answer
+    line = f"{position} {size} {what}"
+    if what == "free":
+        return f"{line}, next {rest[0]}, previous {rest[1]}"
+    if what == "page":
+        held, items = held_in(state, position), len(state.items_of_page(position))
+        return f"{line}, class {rest[0]}, live items {held}, free items {items - held}"
+    return line
+
+
+def block_lines(heap):
+    lines, position = [], DATA_AREA
+    while position in heap.state.blocks:
+        _, answer, position = heap.step(position)
+        lines.append(block_line(heap.state, answer))
+    return lines
+
+
+def mark(state, position):
+    """The character of the block that this position lies in."""
+    start = max(p for p in state.starts if p <= position)
+    kind, _ = state.blocks[start]
+    if kind == PAGE:
+        return str(min(9, 10 * held_in(state, start) // len(state.items_of_page(start))))
+    return {FREE: ".", VARIABLE: "#"}[kind]
+
+
+def map_lines(state):
+    part = (state.end - DATA_AREA) // CHARACTERS + 1
+    marks = "".join(mark(state, position) for position in range(DATA_AREA, state.end, part))
+    head = f"map: each character is {part} bytes, and shows the block at the first of them: . free, # variable, 0 to 9 page by tenths of its items in use"
+    return [head] + [marks[i:i + COLUMNS] for i in range(0, len(marks), COLUMNS)]
+
+
+def report(data):
+    heap = Heap(bytearray(data))
+    refusal, six, table = heap.statistics()
+    if refusal:
+        lines = [f"check: {refusal} {NAMES[refusal]}"]
+        return lines + [f"the input is too long: more than {LONGEST} bytes"] * (len(data) > LONGEST)
+    state = heap.state
+    payloads = [f"{a} {state.capacity(a)}" for a in sorted(state.live_addresses())]
+    return (["check: sound", "", "statistics"] + [f"{name} {n}" for name, n in zip(STATISTICS, six)]
+            + ["", "classes: class, item size, pages, live items, free items"] + class_lines(table)
+            + ["", "blocks: position, size, what it is"] + block_lines(heap)
+            + ["", "live payloads: address, capacity"] + payloads
+            + [""] + map_lines(state))
+
+
+def granted(answer):
+    refusal, address = answer
+    assert refusal == 0
+    return address
+
+
+def sample():
+    """Free and variable blocks, and pages that are full, half full, nearly empty and empty; its length is no multiple of 8."""
+    heap = Heap(bytearray(24001))
+    granted(heap.initialise())
+    take = lambda size, count=1: [granted(heap.allocate(size)) for _ in range(count)]
+    large = take(300) + take(1000)
+    full = take(256, 16)
+    large += take(257) + take(700)
+    half = take(128, 31)
+    large += take(2000) + take(264)
+    empty = take(64)
+    few = take(250, 3)
+    large += take(400)
+    for address in large[1:6:2] + half[::2] + empty + few[:1]:
+        granted(heap.free(address))
+    granted(heap.resize(large[0], 288))
+    return heap.data
+
+
+def main(words):
+    if words[0] == "--make":
+        data = sample()
+        with open(words[1], "wb") as heap, open(words[2], "w") as text:
+            heap.write(data)
+            text.write("\n".join(report(data)) + "\n")
+    else:
+        with open(words[0], "rb") as heap:
+            print("\n".join(report(heap.read())))
+
+
+main(sys.argv[1:])

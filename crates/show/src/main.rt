@@ -1,0 +1,4 @@
+// A report on the heap that standard input holds.
+fn main() {
+    showing::run();
+}
