@@ -9,7 +9,7 @@ SEED ?= 1
 
 LIBRARY = target/staticlib/libhost.a
 
-.PHONY: test run show show-heap lib example compare compare-twin bench
+.PHONY: test run show show-heap compare-show lib example compare compare-twin bench
 
 # The last step is the gate: its last line, 'N passed, 0 failed', is the last line of all.
 test: compare example
@@ -32,6 +32,11 @@ show:
 # That example, and the report that the second program gives on it: the gate holds the program to it.
 show-heap:
 	python3 compare/report.py --make crates/show/stdin crates/show/stdout
+
+# The program's reports on random heaps, and on bytes that are none, against the second program's.
+compare-show:
+	rt check show
+	python3 compare/reports.py 50 $(SEED) tools/chost -r target/bin/show
 
 # The archive for C, in target/staticlib.
 lib:

@@ -1,8 +1,8 @@
 #!/usr/bin/env python3
 """What the program `show` must print of a heap, by the second program.
 
-  report.py HEAP             prints the report on the heap in a file
-  report.py --make HEAP REPORT   writes a heap with every kind of block, and the report on it
+  report.py HEAP                  prints the report on the heap in a file
+  report.py --make HEAP REPORT    writes a heap with every kind of block, and the report on it
 """
 
 import sys
@@ -54,7 +54,7 @@ def mark(state, position):
 def map_lines(state):
     part = (state.end - DATA_AREA) // CHARACTERS + 1
     marks = "".join(mark(state, position) for position in range(DATA_AREA, state.end, part))
-    head = f"map: each character is {part} bytes, and shows the block at the first of them: . free, # variable, 0 to 9 page by tenths of its items in use"
+    head = f"map: each character is {part} bytes, and shows the block at the first of them: . free, # variable, 0 to 9 page by tenths of its items in use (9: nine or ten)"
     return [head] + [marks[i:i + COLUMNS] for i in range(0, len(marks), COLUMNS)]
 
 
@@ -109,4 +109,5 @@ def main(words):
             print("\n".join(report(heap.read())))
 
 
-main(sys.argv[1:])
+if __name__ == "__main__":
+    main(sys.argv[1:])

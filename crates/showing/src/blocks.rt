@@ -20,12 +20,12 @@ fn write_free(next: Position, previous: Position) {
     write_number(b", previous ", previous.0 as u64);
 }
 
-// The page at p.
-fn write_page(h: &[u8], p: Position)
+// The page at p, of class c.
+fn write_page(h: &[u8], p: Position, c: usize)
     requires { ⌜ AtPage (wide .word) (now h) (p .0) ⌝ }
 {
     let page = page_at(WORD, h, p);
-    write_number(b" page, class ", page.class as u64);
+    write_number(b" page, class ", c as u64);
     write_number(b", live items ", page.held);
     write_number(b", free items ", page.idle);
 }
@@ -41,7 +41,7 @@ fn write_block(h: &[u8], b: MetBlock)
     match kind {
         Kind::Free { next, previous } => write_free(next, previous),
         Kind::Variable => write(b" variable"),
-        Kind::Page { class } => write_page(h, p),
+        Kind::Page { class } => write_page(h, p, class),
         Kind::End => write(b" end"),
     }
     write(b"\n");

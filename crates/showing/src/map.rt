@@ -45,14 +45,14 @@ fn page_mark(h: &[u8], p: Position) -> u8
     tenths(page.held, page.idle)
 }
 
-// The character of a block.
+// The character of a block. The class is bound, though not used: without it the proof does not know what the block is.
 fn block_mark(h: &[u8], b: MetBlock) -> u8
     requires { ⌜ BlockRead (wide .word) (now h) (b .position .0) b ⌝ }
 {
     let p = b.position;
     let kind = b.kind;
     match kind {
-        Kind::Free { next, previous } => b'.',
+        Kind::Free { .. } => b'.',
         Kind::Variable => b'#',
         Kind::Page { class } => page_mark(h, p),
         Kind::End => b' ',
@@ -114,7 +114,7 @@ pub fn write_map(h: &[u8])
     let part = (end_of(h.len()).0 - start(WORD).0) / CHARACTERS + 1;
     write_number(b"\nmap: each character is ", part as u64);
     write(
-        b" bytes, and shows the block at the first of them: . free, # variable, 0 to 9 page by tenths of its items in use\n",
+        b" bytes, and shows the block at the first of them: . free, # variable, 0 to 9 page by tenths of its items in use (9: nine or ten)\n",
     );
     let pen = draw_all(h, part);
     if pen.column != 0 {

@@ -2,7 +2,6 @@ use Prim.Native.Nat.{ℕ, _+_}
 use mathlib.Core.Path.{sym}
 use lib.ListN.{length-replicate}
 use Rattle.model.specs.Shape.{wide}
-use borrow.Author.Needs.{needs}
 use Rattle.showing.proofs.room.Statement.{statement}
 use Rattle.showing.proofs.room.Tie as tie
 use Rattle.showing.proofs.room.Reads as reads

@@ -1,7 +1,6 @@
 use Prim.Native.Nat.{_-_, _≤_}
 use Rattle.model.specs.Shape.{wide}
 use Rattle.model.proofs.Sizes.{eight}
-use native.Mathlib.Omega.{arith}
 use borrow.Author.Needs.{needs}
 use Rattle.showing.proofs.counts.write_classes.Statement.{statement}
 use Rattle.showing.proofs.counts.write_classes.Tie as tie

@@ -6,20 +6,20 @@ use Rattle.showing.proofs.map.block_mark.Reads as reads
 use Rattle.showing.proofs.map.block_mark.Lts as lts
 use Rattle.showing.proofs.map.page_mark.Reads as page-mark-reads
 
-enum-known-kind : tie.Need-enum-known-kind
-enum-known-kind c = search needs
-
 enum-told : tie.Need-enum-told
 enum-told c = search needs
 
-enum-known-kind-2 : tie.Need-enum-known-kind-2
-enum-known-kind-2 c = search needs
-
-page-mark-requires : tie.Need-page-mark-requires
-page-mark-requires c κs = on-page (c .before .before .before .before .before .pre) _ (c .before .kind2 .given .1)
-
 enum-told-2 : tie.Need-enum-told-2
 enum-told-2 c = search needs
+
+enum-known-kind : tie.Need-enum-known-kind
+enum-known-kind c = search needs
+
+page-mark-requires : tie.Need-page-mark-requires
+page-mark-requires c κs = on-page (c .before .before .before .before .before .pre) _ (c .before .kind .given .1)
+
+enum-told-3 : tie.Need-enum-told-3
+enum-told-3 c = search needs
 
 returns : tie.Need-returns
 returns c = search needs
@@ -37,11 +37,11 @@ pub block-mark-spec : {M : Type 1} → statement M
 block-mark-spec =
     tie.close
     (tie.spec
-    enum-known-kind
     enum-told
-    enum-known-kind-2
-    page-mark-requires
     enum-told-2
+    enum-known-kind
+    page-mark-requires
+    enum-told-3
     returns
     returns-2
     returns-3

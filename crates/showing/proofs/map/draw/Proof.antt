@@ -1,5 +1,4 @@
 use Prim.Native.Nat.{_-_, _^_, _≤_, _<_}
-use native.Mathlib.Omega.{arith}
 use borrow.Author.Needs.{needs}
 use Rattle.showing.proofs.map.draw.Statement.{statement}
 use Rattle.showing.proofs.map.draw.Tie as tie
