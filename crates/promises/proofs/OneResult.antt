@@ -10,9 +10,10 @@ use lib.ListN.{length, take, drop}
 use lib.Dec.{eqb}
 use Rattle.words.specs.Word.{wordAt}
 use Rattle.model.specs.Shape.{wide}
+use Rattle.model.specs.Sound.{Sound}
 use Rattle.model.specs.Reading as reading
 use Rattle.model.specs.Reading.{aFree, aVariable, aPage, theEnd}
-use Rattle.model.specs.Calls.{Outcome, Told, number, Initialises, Allocates, Frees, Resizes, Steps, Counts}
+use Rattle.model.specs.Calls.{Outcome, Told, Lent, number, Initialises, Allocates, Frees, Resizes, Steps, Counts}
 use Rattle.model.specs.Promises.{Call, initialising, allocating, freeing, resizing, Comes}
 use Rattle.reading.specs.declared.stepping.Kind.{Kind}
 use Rattle.reading.specs.declared.stepping.Kind.the-variants.{Free, Variable, Page, End}
@@ -21,9 +22,11 @@ use Rattle.heap.specs.declared.Answer.{Answer}
 use Rattle.heap.specs.declared.Answer.the-variants.{Granted, Refused}
 use Rattle.heap.specs.declared.Refusal.{Refusal}
 use Rattle.heap.specs.declared.Refusal.the-variants.{BadLength, NotOpened, NotSound, BadSize, NotLive, NoRoom, AlreadyOpened}
+use Rattle.heap.specs.declared.Verdict.{Verdict}
+use Rattle.heap.specs.declared.Verdict.the-variants.{Fine, Unfit}
 use Rattle.heap.specs.declared.counting.Counted.{Counted}
 use Rattle.heap.specs.declared.walking.Step.{Step}
-use Rattle.heap.specs.Answers.{outcome, refusalNumber}
+use Rattle.heap.specs.Answers.{outcome, refusalNumber, UnfitFor, Examined}
 use Rattle.heap.specs.Counting.{toldCounted, TableTold}
 use Rattle.heap.specs.Walking.{toldStep}
 use Rattle.heap.specs.Lookup.{Part, RefusalTold}
@@ -73,6 +76,52 @@ outcome-one (Granted a) (Granted x) c c′ e = (ap (λ (o : Outcome). Granted (r
 outcome-one (Granted a) (Refused k) c c′ e = absurd (omega (arith, refusal-some k, ap (λ (o : Outcome). o .refusal) e))
 outcome-one (Refused k) (Granted a) c c′ e = absurd (omega (arith, refusal-some k, ap (λ (o : Outcome). o .refusal) e))
 outcome-one (Refused k) (Refused j) c c′ e = (ap (λ (z : Refusal). Refused z) (refusal-one k j (ap (λ (o : Outcome). o .refusal) e)), ap (λ (o : Outcome). o .heap) e)
+
+-- a heap is unfit for one reason, and fine for none
+unfit-one : (b : List ℕ) (k j : Refusal) → UnfitFor b k → UnfitFor b j → k ≡ j
+unfolding UnfitFor
+unfit-one b BadLength BadLength u v = refl
+unfit-one b BadLength NotOpened u v = absurd (u (v .0))
+unfit-one b BadLength NotSound u v = absurd (u (v .0))
+unfit-one b BadLength BadSize u v = absurd v
+unfit-one b BadLength NotLive u v = absurd v
+unfit-one b BadLength NoRoom u v = absurd v
+unfit-one b BadLength AlreadyOpened u v = absurd v
+unfit-one b NotOpened BadLength u v = absurd (v (u .0))
+unfit-one b NotOpened NotOpened u v = refl
+unfit-one b NotOpened NotSound u v = absurd (u .1 (v .1))
+unfit-one b NotOpened BadSize u v = absurd v
+unfit-one b NotOpened NotLive u v = absurd v
+unfit-one b NotOpened NoRoom u v = absurd v
+unfit-one b NotOpened AlreadyOpened u v = absurd v
+unfit-one b NotSound BadLength u v = absurd (v (u .0))
+unfit-one b NotSound NotOpened u v = absurd (v .1 (u .1))
+unfit-one b NotSound NotSound u v = refl
+unfit-one b NotSound BadSize u v = absurd v
+unfit-one b NotSound NotLive u v = absurd v
+unfit-one b NotSound NoRoom u v = absurd v
+unfit-one b NotSound AlreadyOpened u v = absurd v
+unfit-one b BadSize j u v = absurd u
+unfit-one b NotLive j u v = absurd u
+unfit-one b NoRoom j u v = absurd u
+unfit-one b AlreadyOpened j u v = absurd u
+
+fine-fit : (b : List ℕ) (k : Refusal) → Lent wide b × Sound wide b → UnfitFor b k → ⊥
+unfolding UnfitFor
+fine-fit b BadLength s u = u (s .0)
+fine-fit b NotOpened s u = u .1 (s .1 .here .magic)
+fine-fit b NotSound s u = u .2 (s .1)
+fine-fit b BadSize s u = u
+fine-fit b NotLive s u = u
+fine-fit b NoRoom s u = u
+fine-fit b AlreadyOpened s u = u
+
+verdict-one : (b : List ℕ) (v v′ : Verdict) → Examined b v → Examined b v′ → v ≡ v′
+unfolding Examined
+verdict-one b Fine Fine x y = refl
+verdict-one b Fine (Unfit k) x y = absurd (fine-fit b k x y)
+verdict-one b (Unfit k) Fine x y = absurd (fine-fit b k y x)
+verdict-one b (Unfit k) (Unfit j) x y = ap (λ (z : Refusal). Unfit z) (unfit-one b k j x y)
 
 -- a step by what it tells
 kindBack : reading.Kind → Kind
@@ -189,6 +238,7 @@ pub one-result : OneResult
 one-result =
     record {
       answers = λ b q r r′ c c′ x y. outcome-one r r′ c c′ (determined wide b q (outcome r c) (outcome r′ c′) x y);
+      verdicts = verdict-one;
       numbers = λ b q n n′ c c′ x y.
           let e : x .outcome ≡ y .outcome = determined wide b q (x .outcome) (y .outcome) (x .allowed) (y .allowed) in
           (x .number ∙ ap number e ∙ sym (y .number), x .heap ∙ ap (λ (o : Outcome). o .heap) e ∙ sym (y .heap));

@@ -18,9 +18,10 @@ use Rattle.heap.specs.declared.Answer.{Answer}
 use Rattle.heap.specs.declared.Answer.the-variants.{Granted, Refused}
 use Rattle.heap.specs.declared.Refusal.{Refusal}
 use Rattle.heap.specs.declared.Refusal.the-variants as why
+use Rattle.heap.specs.declared.Verdict.{Verdict}
 use Rattle.heap.specs.declared.counting.Counted.{Counted}
 use Rattle.heap.specs.declared.walking.Step.{Step}
-use Rattle.heap.specs.Answers.{outcome}
+use Rattle.heap.specs.Answers.{outcome, Examined}
 use Rattle.heap.specs.Counting.{toldCounted, TableTold}
 use Rattle.heap.specs.Walking.{toldStep}
 use Rattle.heap.specs.Lookup.{Part, RefusalTold}
@@ -35,6 +36,7 @@ MayAnswer b q r c = Comes wide b q (outcome r c)
 -- Any two results that a public contract allows are equal
 pub record OneResult : Type 0 where
   pub answers : (b : List ℕ) (q : Call) (r r′ : Answer) (c c′ : List ℕ) → MayAnswer b q r c → MayAnswer b q r′ c′ → (r ≡ r′) × (c ≡ c′)
+  pub verdicts : (b : List ℕ) (v v′ : Verdict) → Examined b v → Examined b v′ → v ≡ v′
   pub numbers : (b : List ℕ) (q : Call) (n n′ : ℕ) (c c′ : List ℕ) → Numbered (Comes wide b q) n c → Numbered (Comes wide b q) n′ c′ → (n ≡ n′) × (c ≡ c′)
   pub look-ups : (h : RefT (List ℕ)) (a : ℕ) (r r′ : RefT (List ℕ)) → Part h a r → Part h a r′ → (now r ≡ now r′) × (ptr r ≡ ptr r′)
   pub look-up-refusals : (b : List ℕ) (a k k′ : ℕ) → RefusalTold b a k → RefusalTold b a k′ → k ≡ k′
