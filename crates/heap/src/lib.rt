@@ -99,7 +99,7 @@ pub fn initialise(h: &mut [u8]) -> Answer
     Answer::Granted(Address(0))
 }
 
-// The length, the first 8 bytes, and soundness, in that order.
+// The length, the first 8 bytes, and soundness, in that order. Who reads much of a heap asks this once, and then reads by the crate `reading`.
 pub fn examine(h: &[u8]) -> Verdict
     ensures { λ r. ⌜ Examined (now (h .entry)) r ⌝ }
 {
