@@ -179,8 +179,8 @@ called-one : (allows : Outcome → Type 0) → ((o o′ : Outcome) → allows o 
 called-one allows one b n l l′ c c′ x y =
     let e : x .outcome ≡ y .outcome = one (x .outcome) (y .outcome) (x .allowed) (y .allowed) in (
       ap₂ (λ (k : ℕ) (v : List ℕ). record { refusal = k; numbers = v })
-      (x .refusal ∙ ap (λ (o : Outcome). o .refusal) e ∙ sym (y .refusal))
-      (x .numbers ∙ ap (λ (o : Outcome). o .address ∷ 0 ∷ 0 ∷ 0 ∷ 0 ∷ 0 ∷ []) e ∙ sym (y .numbers)),
+          (x .refusal ∙ ap (λ (o : Outcome). o .refusal) e ∙ sym (y .refusal))
+          (x .numbers ∙ ap (λ (o : Outcome). o .address ∷ 0 ∷ 0 ∷ 0 ∷ 0 ∷ 0 ∷ []) e ∙ sym (y .numbers)),
       x .bytes ∙ ap (λ (o : Outcome). o .heap ++ drop n b) e ∙ sym (y .bytes),
     )
 
