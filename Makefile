@@ -47,7 +47,7 @@ example: lib
 	CFLAGS=-Iinclude tools/chost examples/console.c $(LIBRARY) > target/console.out
 	diff examples/console.out target/console.out && cat target/console.out
 
-# Long random runs, and damaged heaps, of the library against the second program.
+# The figures that are run, long random runs and damaged heaps: the library against the second program.
 compare: lib
 	python3 compare/second.py
 	python3 compare/compare.py --library $(LIBRARY) --calls $(CALLS) --number $(N) --damaged $(DAMAGED) --seed $(SEED)

@@ -5,8 +5,8 @@
   compare.py --library FILE.. --seed S --only KIND:INDEX
 
 "--library bench/twin.c --prefix twin_" compares the plain C twin. The driver is
-built below target/compare. A failure prints the calls up to the first one that
-differs, and the status is 1.
+built below target/compare. The figures of 01 that are run come first. A failure
+prints the calls up to the first one that differs, and the status is 1.
 """
 
 import argparse
@@ -21,6 +21,7 @@ import time
 sys.dont_write_bytecode = True  # products belong below target/
 from damage import damaged
 from runs import CALLS, Run, Player, random_run, sound_heap
+from second import FIGURES, played
 
 ROOT = os.path.dirname(os.path.dirname(os.path.abspath(__file__)))
 PRODUCTS = os.path.join(ROOT, "target", "compare")
@@ -178,6 +179,18 @@ def check_second(run):
         raise SystemExit(f"compare: {run.label}: the second program lost track of its own heap")
 
 
+def figure_runs(have, figures, counts):
+    """Figures of 01. The second program answers what they say, and so must the library."""
+    for figure in figures:
+        length, _, _ = FIGURES[figure]
+        run = Run(f"figure:{figure}", bytes(length), 0, have, "zeros")
+        for got, wanted in played(figure, run.call, run.heap.data):
+            if got != wanted:
+                raise SystemExit(f"compare: {run.label}: the second program gives {got} instead of {wanted}")
+        counts["figures"] += 1
+        yield run
+
+
 def random_runs(seed, have, number, counts):
     """Runs until there are this many calls."""
     index = 0
@@ -231,9 +244,11 @@ def all_damaged_runs(seed, have, number, counts):
 
 
 def one_run(seed, have, label, counts):
-    """The run, or the damaged heaps, of one label alone."""
+    """The figure, the run, or the damaged heaps, of one label alone."""
     rng = generator(seed, label)
-    if label.startswith("run:"):
+    if label.startswith("figure:"):
+        yield from figure_runs(have, [label.removeprefix("figure:")], counts)
+    elif label.startswith("run:"):
         yield random_run(rng, label, have)
     else:
         yield from damaged_runs(rng, label, have, HEAPS_FROM_ONE, counts)
@@ -259,13 +274,15 @@ def options():
 def main():
     chosen = options()
     began = time.monotonic()
-    counts = {"calls": 0, "heaps": 0, "damaged": 0, "still sound": 0}
+    counts = {"figures": 0, "calls": 0, "heaps": 0, "damaged": 0, "still sound": 0}
     driver = Driver(build_driver(chosen.library, chosen.prefix, chosen.calls))
     try:
         if chosen.only:
             for run in one_run(chosen.seed, chosen.calls, chosen.only, counts):
                 driver.add(run)
         else:
+            for run in figure_runs(chosen.calls, FIGURES, counts):
+                driver.add(run)
             for run in random_runs(chosen.seed, chosen.calls, chosen.number, counts):
                 driver.add(run)
             for run in all_damaged_runs(chosen.seed, chosen.calls, chosen.damaged, counts):
@@ -274,8 +291,9 @@ def main():
     except Difference as difference:
         report(difference, chosen.seed)
         return 1
-    print(f"compare: seed {chosen.seed}: {counts['calls']} calls on {counts['heaps']} heaps and {counts['damaged']} "
-          f"damaged heaps ({counts['still sound']} of them still sound) agree, {time.monotonic() - began:.0f} s")
+    print(f"compare: {counts['figures']} figures, and from seed {chosen.seed} {counts['calls']} calls on "
+          f"{counts['heaps']} heaps and {counts['damaged']} damaged heaps ({counts['still sound']} of them still sound) "
+          f"agree, {time.monotonic() - began:.0f} s")
     return 0
 
 

@@ -512,26 +512,40 @@ class Heap:
         self.writes.append((position, content))
 
 
-def call_list(records):
+RECORD_CALLS = ("initialise", "allocate", "resize", "free", "statistics")  # by a record's kind
+RECORD_NUMBERS = (1, 1, 2, 1, 0)  # how many numbers its body has
+
+
+def records_of(content):
+    """The kind and the numbers of each record of a call list; none where it must stop."""
+    at = 0
+    while at < len(content):
+        kind = content[at]
+        count = RECORD_NUMBERS[kind] if kind < len(RECORD_NUMBERS) else None
+        if count is None or at + 1 + 4 * count > len(content):
+            yield None
+            return
+        yield kind, struct.unpack_from(f"<{count}I", content, at + 1)
+        at += 1 + 4 * count
+
+
+def call_list(content):
     """The output of the call-list program for these records."""
-    heap, number, at, lines = Heap(bytearray(65536)), 0, 0, []
-    while at < len(records):
-        kind = records[at]
-        width = {0: 4, 1: 4, 2: 8, 3: 4, 4: 0}.get(kind)
-        if width is None or at + 1 + width > len(records):
+    heap, lines = Heap(bytearray(65536)), []
+    for number, record in enumerate(records_of(content)):
+        if record is None:
             return lines + ["stop"]
-        body = struct.unpack_from("<%dI" % (width // 4), records, at + 1)
-        at += 1 + width
-        if kind == 0:
+        kind, body = record
+        name = RECORD_CALLS[kind]
+        if name == "initialise":
             heap, refusal = call_list_initialise(heap, body[0])
             lines.append(f"{number} {refusal} 0")
-        elif kind == 4:
+        elif name == "statistics":
             refusal, six, _ = heap.statistics()
             lines.append(" ".join(map(str, (number, refusal, *six))))
         else:
-            refusal, address = (heap.allocate, heap.resize, heap.free)[kind - 1](*body)
+            refusal, address = getattr(heap, name)(*body)
             lines.append(f"{number} {refusal} {address}")
-        number += 1
     return lines
 
 
@@ -543,6 +557,39 @@ def call_list_initialise(heap, length):
         return heap, ALREADY
     fresh = Heap(heap.data[:length])
     return fresh, fresh.initialise()[0]
+
+
+# The call-list example of 01, and what it prints.
+EXAMPLE = bytes.fromhex("00 10270000 01 2c010000 01 10000000 03 40010000 03 40010000 04")
+EXAMPLE_LINES = ["0 0 0", "1 0 320", "2 0 648", "3 0 0", "4 5 0", "5 0 5568 2 5248 0 1 1"]
+
+
+def example_calls():
+    """The example's records and lines as calls of a figure; for C there are no statistics."""
+    for (kind, body), line in zip(records_of(EXAMPLE), EXAMPLE_LINES):
+        name = RECORD_CALLS[kind]
+        numbers = () if name == "initialise" else body
+        if name != "statistics":
+            yield name, *numbers, *map(int, line.split()[1:])
+
+
+# The figures of 01 that are run and not proved, on this program and, by compare.py, on the library: the length of a
+# buffer of zeros, calls with their refusals and addresses, and words by the positions where they then stand.
+FIGURES = {
+    "block-of-280": (10000, [("initialise", 0, 0), ("allocate", 257, 0, 320)], {312: 282}),
+    "page-at-312": (10000, [("initialise", 0, 0), ("allocate", 16, 0, 328), ("free", 48, 5, 0), ("free", 320, 5, 0)],
+                    {312: 4123}),
+    "call-list": (10000, list(example_calls()), {}),
+}
+
+
+def played(figure, call, data):
+    """What each call of a figure answers, and each word of data is then, beside what 01 says."""
+    _, calls, words = FIGURES[figure]
+    for name, *numbers, refusal, address in calls:
+        yield call(name, *numbers), (refusal, address)
+    for position, value in words.items():
+        yield word_at(data, position), value
 
 
 class SelfTest:
@@ -621,22 +668,25 @@ class SelfTest:
             else:
                 self.same(bytes(heap.data), before)
 
-    def addresses(self):
-        heap = self.fresh(10000)
-        self.same(heap.allocate(257)[0], GRANTED)
-        self.same(self.blocks(heap)[0], ("variable", 312, 280))
-        heap = self.fresh(10000)
-        self.same(heap.allocate(1), (GRANTED, 328))
-        self.same(heap.free(48), (BAD_ADDRESS, 0))
-        self.same(heap.free(320), (BAD_ADDRESS, 0))
-        self.same([len(heap.look_up(address)[1]) for address in (320, 328)], [0, 8])
-        self.same(heap.statistics()[2][0], [1, 1, 256])
+    def figures(self):
+        """Those that are run on the library too; answers the heaps that they leave."""
+        heaps = {}
+        for figure, (length, _, _) in FIGURES.items():
+            heap = heaps[figure] = Heap(bytearray(length))
+            for got, wanted in played(figure, lambda name, *numbers: getattr(heap, name)(*numbers), heap.data):
+                self.same(got, wanted)
+        return heaps
+
+    def reading(self):
+        heaps = self.figures()
+        self.same(self.blocks(heaps["block-of-280"])[0], ("variable", 312, 280))
+        heap = heaps["page-at-312"]
+        self.same([len(heap.look_up(address)[1]) for address in (320, 328)], [0, 16])
+        self.same(heap.statistics()[2][1], [1, 1, 170])
         self.same(heap.initialise(), (ALREADY, 0))
 
     def call_lists(self):
-        records = bytes.fromhex("00 10270000 01 2c010000 01 10000000 03 40010000 03 40010000 04")
-        wanted = ["0 0 0", "1 0 320", "2 0 648", "3 0 0", "4 5 0", "5 0 5568 2 5248 0 1 1"]
-        self.same(call_list(records), wanted)
+        self.same(call_list(EXAMPLE), EXAMPLE_LINES)
         self.same(call_list(b"\x04\x09"), ["0 2 0 0 0 0 0 0", "stop"])
 
     def run(self):
@@ -645,7 +695,7 @@ class SelfTest:
         self.blocks_in_a_hole()
         self.item_freed_twice()
         self.resizes()
-        self.addresses()
+        self.reading()
         self.call_lists()
         return self.count
 
