@@ -1,4 +1,4 @@
-# `make test` runs every test; `make run` runs the main job. See README.md.
+# `make` tells what there is. See README.md.
 
 # The calls that the library has.
 CALLS = initialise,check,allocate,resize,free
@@ -6,10 +6,21 @@ CALLS = initialise,check,allocate,resize,free
 N ?= 100000
 DAMAGED ?= 5000
 SEED ?= 1
+# install: where to.
+PREFIX ?= /usr/local
 
-LIBRARY = target/staticlib/libhost.a
+LIBRARY = target/staticlib/libjagwibodu.a
+VERSION = $(shell sed -n 's/.*JAGWIBODU_VERSION "\(.*\)".*/\1/p' include/jagwibodu.h)
 
-.PHONY: test run show show-heap compare-show lib example compare compare-twin bench
+.PHONY: help test run show show-heap compare-show lib install example compare compare-twin bench
+
+help:
+	@echo 'make run      proves the call-list program and runs it on an example (LIST=file: on that list)'
+	@echo 'make show     proves the report program and runs it on an example (HEAP=file: on that heap)'
+	@echo 'make lib      proves the library and leaves $(LIBRARY), for C'
+	@echo 'make install  puts the header, the library and a pkg-config file below PREFIX ($(PREFIX))'
+	@echo 'make test     runs every test'
+	@echo 'make bench    counts the instructions of each call, against plain C'
 
 # Everything is proved once, and the comparisons and the example run on what that left; the last line is 'N passed, 0 failed'.
 test:
@@ -18,6 +29,7 @@ test:
 # The call-list program, proved and then run on document 01's example, or on the list that LIST names.
 run:
 	@mkdir -p target
+	@echo 'proving the call-list program and what it stands on (some minutes the first time)'
 	@rt check calls > target/run.log 2>&1 || { cat target/run.log; exit 1; }
 	@tail -n 1 target/run.log
 	@tools/chost -r target/bin/calls < $(or $(LIST),crates/calls/stdin)
@@ -25,6 +37,7 @@ run:
 # The report on a heap, proved and then run on an example, or on the file that HEAP names.
 show:
 	@mkdir -p target
+	@echo 'proving the report program and what it stands on (some minutes the first time)'
 	@rt check show > target/show.log 2>&1 || { cat target/show.log; exit 1; }
 	@tail -n 1 target/show.log
 	@tools/chost -r target/bin/show < $(or $(HEAP),crates/show/stdin)
@@ -40,12 +53,23 @@ compare-show:
 
 # The archive for C, in target/staticlib.
 lib:
-	rt staticlib host
+	rt staticlib jagwibodu
 
-# The example host in C: built, run, and its output compared.
-example: lib
-	CFLAGS=-Iinclude tools/chost examples/console.c $(LIBRARY) > target/console.out
+# Header, archive and pkg-config file, where such things go.
+install: lib
+	install -d $(PREFIX)/include $(PREFIX)/lib/pkgconfig
+	install -m 644 include/jagwibodu.h $(PREFIX)/include
+	install -m 644 $(LIBRARY) $(PREFIX)/lib
+	sed 's|@PREFIX@|$(PREFIX)|; s|@VERSION@|$(VERSION)|' include/jagwibodu.pc.in > $(PREFIX)/lib/pkgconfig/jagwibodu.pc
+
+# The example host in C, built with what install gives; on a heap with room, and on one in which most is refused.
+INSTALLED = target/installed
+example:
+	$(MAKE) --no-print-directory install PREFIX=$(INSTALLED)
+	CFLAGS='-I$(INSTALLED)/include' tools/chost examples/console.c $(INSTALLED)/lib/libjagwibodu.a > target/console.out
 	diff examples/console.out target/console.out && cat target/console.out
+	CFLAGS='-I$(INSTALLED)/include -DLENGTH=4500' tools/chost examples/console.c $(INSTALLED)/lib/libjagwibodu.a > target/console-small.out
+	diff examples/console-small.out target/console-small.out
 
 # The figures that are run, long random runs and damaged heaps: the library against the second program.
 compare: lib

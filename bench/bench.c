@@ -67,31 +67,31 @@ static void measure(const char *call, uint64_t address, uint64_t size)
     (void)size;
 #ifdef HAVE_INITIALISE
     if (!strcmp(call, "initialise")) {
-        BOTH(heap_initialise(ours, length), twin_initialise(twins, length));
+        BOTH(jagwibodu_initialise(ours, length), twin_initialise(twins, length));
         return;
     }
 #endif
 #ifdef HAVE_CHECK
     if (!strcmp(call, "check")) {
-        BOTH(heap_check(ours, length), twin_check(twins, length));
+        BOTH(jagwibodu_check(ours, length), twin_check(twins, length));
         return;
     }
 #endif
 #ifdef HAVE_ALLOCATE
     if (!strcmp(call, "allocate")) {
-        BOTH(heap_allocate(ours, length, size), twin_allocate(twins, length, size));
+        BOTH(jagwibodu_allocate(ours, length, size), twin_allocate(twins, length, size));
         return;
     }
 #endif
 #ifdef HAVE_RESIZE
     if (!strcmp(call, "resize")) {
-        BOTH(heap_resize(ours, length, address, size), twin_resize(twins, length, address, size));
+        BOTH(jagwibodu_resize(ours, length, address, size), twin_resize(twins, length, address, size));
         return;
     }
 #endif
 #ifdef HAVE_FREE
     if (!strcmp(call, "free")) {
-        BOTH(heap_free(ours, length, address), twin_free(twins, length, address));
+        BOTH(jagwibodu_free(ours, length, address), twin_free(twins, length, address));
         return;
     }
 #endif

@@ -154,7 +154,7 @@ def calls_on(heap):
 
 def build(libraries, prefix, have):
     program = os.path.join(PRODUCTS, "bench")
-    flags = " ".join(f"-DHAVE_{name.upper()} -Dheap_{name}={prefix}{name}" for name in have)
+    flags = " ".join(f"-DHAVE_{name.upper()} -Djagwibodu_{name}={prefix}{name}" for name in have)
     sources = [os.path.join(ROOT, "bench", name) for name in ("bench.c", "twin.c")]
     subprocess.run([os.path.join(ROOT, "tools", "chost"), "-o", program, *sources, *libraries], check=True,
                    env=dict(os.environ, CFLAGS=flags))
@@ -207,7 +207,7 @@ def print_growth(counts):
 def options():
     parser = argparse.ArgumentParser(description="Counts instructions against the plain C twin.")
     parser.add_argument("--library", nargs="*", default=[], metavar="FILE", help=".a, .o or .c files with the calls")
-    parser.add_argument("--prefix", default="heap_", help="what the names of the calls begin with")
+    parser.add_argument("--prefix", default="jagwibodu_", help="what the names of the calls begin with")
     parser.add_argument("--calls", default=",".join(CALLS), help="the calls that the library has")
     parser.add_argument("--sizes", default=",".join(map(str, SIZES)), help="lengths of the heaps")
     return parser.parse_args()

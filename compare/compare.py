@@ -43,7 +43,7 @@ class Difference(Exception):
 def build_driver(libraries, prefix, have):
     os.makedirs(PRODUCTS, exist_ok=True)
     driver = os.path.join(PRODUCTS, "driver")
-    flags = " ".join(f"-DHAVE_{name.upper()} -Dheap_{name}={prefix}{name}" for name in have)
+    flags = " ".join(f"-DHAVE_{name.upper()} -Djagwibodu_{name}={prefix}{name}" for name in have)
     environment = dict(os.environ, CFLAGS=flags)
     source = os.path.join(ROOT, "compare", "driver.c")
     subprocess.run([CHOST, "-o", driver, source, *libraries], check=True, env=environment)
@@ -257,7 +257,7 @@ def one_run(seed, have, label, counts):
 def options():
     parser = argparse.ArgumentParser(description="Compares a library's heap calls with the second program.")
     parser.add_argument("--library", nargs="+", required=True, metavar="FILE", help=".a, .o or .c files with the calls")
-    parser.add_argument("--prefix", default="heap_", help="what the names of the calls begin with")
+    parser.add_argument("--prefix", default="jagwibodu_", help="what the names of the calls begin with")
     parser.add_argument("--calls", default=",".join(CALLS), help="the calls that the library has")
     parser.add_argument("--seed", default="1")
     parser.add_argument("--number", type=int, default=100000, help="calls in random runs")

@@ -141,30 +141,30 @@ static void call(int command)
     switch (command) {
 #ifdef HAVE_INITIALISE
     case 'I':
-        answer(heap_initialise(heap, length));
+        answer(jagwibodu_initialise(heap, length));
         break;
 #endif
 #ifdef HAVE_CHECK
     case 'C':
-        answer(heap_check(heap, length));
+        answer(jagwibodu_check(heap, length));
         break;
 #endif
 #ifdef HAVE_ALLOCATE
     case 'A':
-        answer(heap_allocate(heap, length, read_word()));
+        answer(jagwibodu_allocate(heap, length, read_word()));
         break;
 #endif
 #ifdef HAVE_RESIZE
     case 'R': {
         uint64_t address = read_word();
         uint64_t size = read_word();
-        answer(heap_resize(heap, length, address, size));
+        answer(jagwibodu_resize(heap, length, address, size));
         break;
     }
 #endif
 #ifdef HAVE_FREE
     case 'F':
-        answer(heap_free(heap, length, read_word()));
+        answer(jagwibodu_free(heap, length, read_word()));
         break;
 #endif
     default:

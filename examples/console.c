@@ -1,15 +1,19 @@
 /* A console's host in small: one heap keeps the electrode insertion forms of a patient's two ears, with a remark and a
-   list of readings that grows as they come in. */
+   list of readings that grows as they come in. Every refusal is told, and what was refused is not there. */
 #include "jagwibodu.h"
 
 #include <stdio.h>
 #include <string.h>
 
-enum { ELECTRODES = 8, LENGTH = 65536 };
+#ifndef LENGTH
+#define LENGTH 65536
+#endif
+
+enum { ELECTRODES = 8, READING = ELECTRODES * sizeof(uint16_t) };
 
 static uint8_t heap[LENGTH];
 
-/* A form; what it refers to are addresses in the heap. */
+/* A form; what it refers to are addresses in the heap, 0 where there is none. */
 struct form {
     char ear[8];
     uint64_t remark;
@@ -17,84 +21,124 @@ struct form {
     uint64_t count;
 };
 
-static const char *const REASONS[] = { "granted", "bad length", "not opened", "not sound", "bad size", "not live", "no room", "already opened" };
-
 /* The address of an answer; 0, with a line, where the call was refused. */
-static size_t granted(const char *what, uint64_t answer)
+static uint64_t granted(const char *what, uint64_t answer)
 {
     if (JAGWIBODU_REFUSAL(answer) != JAGWIBODU_GRANTED)
-        printf("%s: refused, %s\n", what, REASONS[JAGWIBODU_REFUSAL(answer)]);
+        printf("%s: refused, %s\n", what, jagwibodu_refusal_name(JAGWIBODU_REFUSAL(answer)));
     return JAGWIBODU_ADDRESS(answer);
 }
 
-static struct form *form_at(size_t address)
+/* Records are copied out and in, so the buffer may stand anywhere in memory. */
+static struct form load(uint64_t address)
 {
-    return (struct form *)(heap + address);
+    struct form form;
+
+    memcpy(&form, heap + address, sizeof form);
+    return form;
 }
 
-static size_t new_form(const char *ear)
+static void store(uint64_t address, struct form form)
 {
-    size_t address = granted("new form", heap_allocate(heap, LENGTH, sizeof(struct form)));
+    memcpy(heap + address, &form, sizeof form);
+}
 
-    if (address != 0) {
-        memset(form_at(address), 0, sizeof(struct form));
-        memcpy(form_at(address)->ear, ear, strlen(ear));
-    }
+static uint64_t new_form(const char *ear)
+{
+    uint64_t address = granted("new form", jagwibodu_allocate(heap, LENGTH, sizeof(struct form)));
+    struct form form;
+
+    memset(&form, 0, sizeof form);
+    strncpy(form.ear, ear, sizeof form.ear - 1);
+    if (address != 0)
+        store(address, form);
     return address;
 }
 
-static void set_remark(size_t form, const char *text)
+static void set_remark(uint64_t at, const char *text)
 {
-    size_t address = granted("remark", heap_allocate(heap, LENGTH, strlen(text) + 1));
+    uint64_t address = at == 0 ? 0 : granted("remark", jagwibodu_allocate(heap, LENGTH, strlen(text) + 1));
+    struct form form;
 
     if (address == 0)
         return;
     memcpy(heap + address, text, strlen(text) + 1);
-    form_at(form)->remark = address;
+    form = load(at);
+    form.remark = address;
+    store(at, form);
 }
 
 /* One reading more: the list is allocated with the first and resized with each later one. */
-static void add_reading(size_t form, const uint16_t *ohms)
+static void add_reading(uint64_t at, const uint16_t *ohms)
 {
-    uint64_t bytes = ELECTRODES * sizeof(uint16_t);
-    uint64_t count = form_at(form)->count;
-    size_t list = count == 0 ? granted("first reading", heap_allocate(heap, LENGTH, bytes))
-                             : granted("reading", heap_resize(heap, LENGTH, form_at(form)->readings, (count + 1) * bytes));
+    struct form form;
+    uint64_t list;
 
+    if (at == 0)
+        return;
+    form = load(at);
+    list = form.count == 0 ? granted("first reading", jagwibodu_allocate(heap, LENGTH, READING))
+                           : granted("reading", jagwibodu_resize(heap, LENGTH, form.readings, (form.count + 1) * READING));
     if (list == 0)
         return; /* refused: the readings so far are as they were */
-    memcpy(heap + list + count * bytes, ohms, bytes);
-    form_at(form)->readings = list;
-    form_at(form)->count = count + 1;
+    memcpy(heap + list + form.count * READING, ohms, READING);
+    form.readings = list;
+    form.count++;
+    store(at, form);
 }
 
-static void print_form(size_t address)
+static void print_form(uint64_t at)
 {
-    struct form *form = form_at(address);
-    const uint16_t *ohms = (const uint16_t *)(heap + form->readings);
+    struct form form;
+    uint16_t ohms[ELECTRODES];
 
-    printf("%s ear: %s\n", form->ear, (const char *)(heap + form->remark));
-    for (uint64_t reading = 0; reading < form->count; reading++) {
+    if (at == 0) {
+        printf("no form\n");
+        return;
+    }
+    form = load(at);
+    printf("%s ear: %s\n", form.ear, form.remark == 0 ? "(no remark)" : (const char *)(heap + form.remark));
+    for (uint64_t reading = 0; reading < form.count; reading++) {
+        memcpy(ohms, heap + form.readings + reading * READING, READING);
         printf("  reading %u:", (unsigned)reading + 1);
         for (int electrode = 0; electrode < ELECTRODES; electrode++)
-            printf(" %u", (unsigned)ohms[reading * ELECTRODES + electrode]);
+            printf(" %u", (unsigned)ohms[electrode]);
         printf("\n");
     }
 }
 
-static void free_form(size_t address)
+static void free_form(uint64_t at)
 {
-    granted("free readings", heap_free(heap, LENGTH, form_at(address)->readings));
-    granted("free remark", heap_free(heap, LENGTH, form_at(address)->remark));
-    granted("free form", heap_free(heap, LENGTH, address));
+    struct form form;
+
+    if (at == 0)
+        return;
+    form = load(at);
+    if (form.readings != 0)
+        granted("free readings", jagwibodu_free(heap, LENGTH, form.readings));
+    if (form.remark != 0)
+        granted("free remark", jagwibodu_free(heap, LENGTH, form.remark));
+    granted("free form", jagwibodu_free(heap, LENGTH, at));
+}
+
+/* Checks what the buffer holds, and opens a heap where it holds none. */
+static int open_heap(void)
+{
+    uint64_t answer = jagwibodu_check(heap, LENGTH);
+
+    if (JAGWIBODU_REFUSAL(answer) == JAGWIBODU_NOT_OPENED)
+        answer = jagwibodu_initialise(heap, LENGTH);
+    granted("open", answer);
+    return JAGWIBODU_REFUSAL(answer) == JAGWIBODU_GRANTED;
 }
 
 int main(void)
 {
-    size_t left, right;
+    uint64_t left, right;
     uint16_t ohms[ELECTRODES];
 
-    granted("open", heap_initialise(heap, LENGTH));
+    if (!open_heap())
+        return 1;
     left = new_form("left");
     right = new_form("right");
     set_remark(left, "all electrodes inserted");
@@ -109,13 +153,13 @@ int main(void)
     }
     print_form(left);
     print_form(right);
-    printf("the heap is %s\n", heap_check(heap, LENGTH) == 0 ? "sound" : "damaged");
+    printf("the heap is %s\n", JAGWIBODU_REFUSAL(jagwibodu_check(heap, LENGTH)) == JAGWIBODU_GRANTED ? "sound" : "damaged");
     free_form(left);
     free_form(right);
-    granted("free the left form again", heap_free(heap, LENGTH, left));
-    granted("open again", heap_initialise(heap, LENGTH));
-    granted("a record as long as the heap", heap_allocate(heap, LENGTH, LENGTH));
+    granted("free the left form again", jagwibodu_free(heap, LENGTH, left));
+    granted("open again", jagwibodu_initialise(heap, LENGTH));
+    granted("a record as long as the heap", jagwibodu_allocate(heap, LENGTH, LENGTH));
     heap[20]++;
-    granted("a damaged heap", heap_allocate(heap, LENGTH, 8));
+    granted("a damaged heap", jagwibodu_allocate(heap, LENGTH, 8));
     return 0;
 }

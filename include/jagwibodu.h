@@ -1,14 +1,33 @@
-/* Jagwibodu: a proved heap inside one lent buffer of bytes. Link with libhost.a (make lib).
+/* Jagwibodu: a proved heap inside one lent buffer of bytes. Link with libjagwibodu.a (make lib), for x86-64.
 
-   Each call takes the buffer and its length in bytes, 344 to 1,048,576, the same length every time. It answers one
-   number, refusal * 2^32 + address: refusal 0 means granted, and the address is a position in the buffer, 0 where the
-   call gives none. Every call checks the whole heap first. A refused call leaves every byte as it was. Calls are safe
-   for all bytes, addresses and sizes; they need no more than 17 KiB of stack, and nothing but the buffer and memset. */
+   Each call takes the buffer and its length in bytes, JAGWIBODU_SHORTEST to JAGWIBODU_LONGEST, the same length every
+   time. It answers one number, refusal * 2^32 + address: refusal 0 means granted, and the address is a position in the
+   buffer, 0 where the call gives none. Every call checks the whole heap first. A refused call leaves every byte as it
+   was. Calls are safe for all bytes, addresses and sizes.
+
+   Opening a buffer: call jagwibodu_check. 0: it holds a sound heap, go on. 2: it holds none, call jagwibodu_initialise.
+   3: it holds a damaged one; to start anew clear its first 8 bytes, and then initialise (which else answers 7).
+
+   A heap holds positions only, so it may be copied, saved and read back at another place. Addresses are multiples of 8
+   from the buffer's start: align the buffer to 8 where records are to be cast to structs. Calls on one buffer need
+   their caller's lock; calls on different buffers need none. A null buffer must have the length 0, and gets
+   JAGWIBODU_BAD_LENGTH. A call uses the registers that C's calling convention gives it, no more than 17 KiB of stack,
+   and nothing but the buffer and the C library's memset. */
 #ifndef JAGWIBODU_H
 #define JAGWIBODU_H
 
 #include <stddef.h>
 #include <stdint.h>
+
+#ifdef __cplusplus
+extern "C" {
+#endif
+
+#define JAGWIBODU_VERSION "1.0"
+
+/* The lengths that a buffer may have; the largest size that can be asked for is the latter too. */
+#define JAGWIBODU_SHORTEST 344
+#define JAGWIBODU_LONGEST 1048576
 
 enum jagwibodu_refusal {
     JAGWIBODU_GRANTED = 0,
@@ -25,21 +44,49 @@ enum jagwibodu_refusal {
 #define JAGWIBODU_REFUSAL(answer) ((enum jagwibodu_refusal)((answer) >> 32))
 #define JAGWIBODU_ADDRESS(answer) ((size_t)((answer) & 0xffffffffu))
 
+/* A refusal in words. */
+static inline const char *jagwibodu_refusal_name(enum jagwibodu_refusal refusal)
+{
+    switch (refusal) {
+    case JAGWIBODU_GRANTED:
+        return "granted";
+    case JAGWIBODU_BAD_LENGTH:
+        return "bad length";
+    case JAGWIBODU_NOT_OPENED:
+        return "not opened";
+    case JAGWIBODU_NOT_SOUND:
+        return "not sound";
+    case JAGWIBODU_BAD_SIZE:
+        return "bad size";
+    case JAGWIBODU_NOT_LIVE:
+        return "not live";
+    case JAGWIBODU_NO_ROOM:
+        return "no room";
+    case JAGWIBODU_ALREADY_OPENED:
+        return "already opened";
+    }
+    return "unknown refusal";
+}
+
 /* Opens a heap in a buffer that holds none: 0, or refused with 1 or 7. */
-uint64_t heap_initialise(uint8_t *buffer, size_t length);
+uint64_t jagwibodu_initialise(uint8_t *buffer, size_t length);
 
 /* Says whether the buffer holds a sound heap: 0, or 1, 2, 3. Changes nothing. */
-uint64_t heap_check(const uint8_t *buffer, size_t length);
+uint64_t jagwibodu_check(const uint8_t *buffer, size_t length);
 
 /* Gives a record of at least `size` bytes, that overlaps no other; its bytes are whatever was there. Refused with 1 to
    4, or 6. */
-uint64_t heap_allocate(uint8_t *buffer, size_t length, uint64_t size);
+uint64_t jagwibodu_allocate(uint8_t *buffer, size_t length, uint64_t size);
 
 /* Gives the record at `address` a new size, where it stands or elsewhere, with the bytes that both sizes share. Refused
    with 1 to 6; then the record stays as it was. */
-uint64_t heap_resize(uint8_t *buffer, size_t length, uint64_t address, uint64_t size);
+uint64_t jagwibodu_resize(uint8_t *buffer, size_t length, uint64_t address, uint64_t size);
 
 /* Gives the record at `address` back. Refused with 1, 2, 3 or 5. */
-uint64_t heap_free(uint8_t *buffer, size_t length, uint64_t address);
+uint64_t jagwibodu_free(uint8_t *buffer, size_t length, uint64_t address);
+
+#ifdef __cplusplus
+}
+#endif
 
 #endif

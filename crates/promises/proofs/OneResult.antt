@@ -30,7 +30,7 @@ use Rattle.heap.specs.Answers.{outcome, refusalNumber, UnfitFor, Examined}
 use Rattle.heap.specs.Counting.{toldCounted, TableTold}
 use Rattle.heap.specs.Walking.{toldStep}
 use Rattle.heap.specs.Lookup.{Part, RefusalTold}
-use Rattle.host.specs.Numbers.{Numbered}
+use Rattle.jagwibodu.specs.Numbers.{Numbered}
 use Rattle.records.specs.declared.Line.{Line}
 use Rattle.records.specs.declared.Played.{Played}
 use Rattle.records.specs.Lines.{Called, CountsIn, OpensIn, CallPlayed, Plays, noLine, clip}

@@ -7,7 +7,7 @@ ghost use mathlib.Core.List.{[]};
 ghost use Rattle.model.specs.Shape.{wide};
 ghost use Rattle.model.specs.Calls.{Initialises, Checks, Allocates, Frees, Resizes};
 ghost use Rattle.heap.specs.Answers.{outcome};
-ghost use Rattle.host.specs.Numbers.{Numbered};
+ghost use Rattle.jagwibodu.specs.Numbers.{Numbered};
 
 // An answer as one number.
 fn number(r: Answer) -> u64
@@ -20,35 +20,35 @@ fn number(r: Answer) -> u64
 }
 
 #[no_mangle]
-pub extern "C" fn heap_initialise(h: &mut [u8]) -> u64
+pub extern "C" fn jagwibodu_initialise(h: &mut [u8]) -> u64
     ensures { λ r. ⌜ Numbered (Initialises wide (now (h .entry))) r (now (h .exit)) ⌝ }
 {
     number(heap::initialise(h))
 }
 
 #[no_mangle]
-pub extern "C" fn heap_check(h: &[u8]) -> u64
+pub extern "C" fn jagwibodu_check(h: &[u8]) -> u64
     ensures { λ r. ⌜ Numbered (Checks wide (now (h .entry))) r (now (h .entry)) ⌝ }
 {
     number(heap::check(h))
 }
 
 #[no_mangle]
-pub extern "C" fn heap_allocate(h: &mut [u8], size: u64) -> u64
+pub extern "C" fn jagwibodu_allocate(h: &mut [u8], size: u64) -> u64
     ensures { λ r. ⌜ Numbered (Allocates wide (now (h .entry)) size) r (now (h .exit)) ⌝ }
 {
     number(heap::allocate(h, size as usize))
 }
 
 #[no_mangle]
-pub extern "C" fn heap_free(h: &mut [u8], address: u64) -> u64
+pub extern "C" fn jagwibodu_free(h: &mut [u8], address: u64) -> u64
     ensures { λ r. ⌜ Numbered (Frees wide (now (h .entry)) address) r (now (h .exit)) ⌝ }
 {
     number(heap::free(h, Address(address as usize)))
 }
 
 #[no_mangle]
-pub extern "C" fn heap_resize(h: &mut [u8], address: u64, size: u64) -> u64
+pub extern "C" fn jagwibodu_resize(h: &mut [u8], address: u64, size: u64) -> u64
     ensures { λ r. ⌜ Numbered (Resizes wide (now (h .entry)) address size) r (now (h .exit)) ⌝ }
 {
     number(heap::resize(h, Address(address as usize), size as usize))

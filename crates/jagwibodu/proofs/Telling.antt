@@ -9,7 +9,7 @@ use Rattle.heap.specs.Answers.{refusalNumber, outcome}
 use Rattle.heap.specs.declared.Refusal.{Refusal}
 use Rattle.heap.specs.declared.Answer.{Answer}
 use Rattle.heap.specs.declared.Answer.the-variants.{Granted, Refused}
-use Rattle.host.specs.Numbers.{Numbered}
+use Rattle.jagwibodu.specs.Numbers.{Numbered}
 
 number-same : (r : Answer) (b c : List ℕ) → number (outcome r b) ≡ number (outcome r c)
 number-same (Granted a) b c = refl

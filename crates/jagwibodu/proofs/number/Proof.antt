@@ -1,9 +1,9 @@
-use Rattle.host.proofs.Telling.{number-granted, number-refused}
+use Rattle.jagwibodu.proofs.Telling.{number-granted, number-refused}
 use borrow.Author.Needs.{needs}
-use Rattle.host.proofs.number.Statement.{statement}
-use Rattle.host.proofs.number.Tie as tie
-use Rattle.host.proofs.number.Reads as reads
-use Rattle.host.proofs.number.Lts as lts
+use Rattle.jagwibodu.proofs.number.Statement.{statement}
+use Rattle.jagwibodu.proofs.number.Tie as tie
+use Rattle.jagwibodu.proofs.number.Reads as reads
+use Rattle.jagwibodu.proofs.number.Lts as lts
 use Rattle.heap.proofs.refusal_number.Reads as refusal-number-reads
 
 enum-known-r : tie.Need-enum-known-r
