@@ -62,7 +62,7 @@ install: lib
 	install -m 644 $(LIBRARY) $(PREFIX)/lib
 	sed 's|@PREFIX@|$(PREFIX)|; s|@VERSION@|$(VERSION)|' include/jagwibodu.pc.in > $(PREFIX)/lib/pkgconfig/jagwibodu.pc
 
-# The example host in C, built with what install gives; on a heap with room, and on one in which most is refused.
+# The example host in C, built with what install gives; on a heap with room, and on one in which most is refused. It is C++ too.
 INSTALLED = target/installed
 example:
 	$(MAKE) --no-print-directory install PREFIX=$(INSTALLED)
@@ -70,6 +70,7 @@ example:
 	diff examples/console.out target/console.out && cat target/console.out
 	CFLAGS='-I$(INSTALLED)/include -DLENGTH=4500' tools/chost examples/console.c $(INSTALLED)/lib/libjagwibodu.a > target/console-small.out
 	diff examples/console-small.out target/console-small.out
+	if command -v c++ > /dev/null; then c++ -std=c++11 -Wall -Wextra -Werror -fsyntax-only -x c++ -I$(INSTALLED)/include examples/console.c; fi
 
 # The figures that are run, long random runs and damaged heaps: the library against the second program.
 compare: lib
