@@ -1,7 +1,5 @@
 # `make` tells what there is. See README.md.
 
-# The calls that the library has.
-CALLS = initialise,check,allocate,resize,free
 # compare: so many calls and so many damaged heaps, from this seed.
 N ?= 100000
 DAMAGED ?= 5000
@@ -75,7 +73,7 @@ example:
 # The figures that are run, long random runs and damaged heaps: the library against the second program.
 compare: lib
 	python3 compare/second.py
-	python3 compare/compare.py --library $(LIBRARY) --calls $(CALLS) --number $(N) --damaged $(DAMAGED) --seed $(SEED)
+	python3 compare/compare.py --library $(LIBRARY) --number $(N) --damaged $(DAMAGED) --seed $(SEED)
 
 # The twin that bench measures against must itself be right.
 compare-twin:
@@ -83,4 +81,4 @@ compare-twin:
 
 # Instructions of the library's calls against the twin's.
 bench: lib
-	python3 bench/table.py --library $(LIBRARY) --calls $(CALLS)
+	python3 bench/table.py --library $(LIBRARY)

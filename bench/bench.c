@@ -1,7 +1,6 @@
 /* Does one call on a heap, once by the library and once by the twin, between marks that icount counts:
    region 0 is ours, region 1 is the twin's. Both must answer alike and leave the same bytes.
-     bench HEAP-FILE CALL ADDRESS SIZE      (a number that the call does not take is 0)
-   HAVE_CHECK and the like say which calls the library has. */
+     bench HEAP-FILE CALL ADDRESS SIZE      (a number that the call does not take is 0) */
 #include "../include/jagwibodu.h"
 #include "twin.h"
 
@@ -63,38 +62,26 @@ static void refresh(void)
 
 static void measure(const char *call, uint64_t address, uint64_t size)
 {
-    (void)address; /* a library with few calls has no use for these */
-    (void)size;
-#ifdef HAVE_INITIALISE
     if (!strcmp(call, "initialise")) {
         BOTH(jagwibodu_initialise(ours, length), twin_initialise(twins, length));
         return;
     }
-#endif
-#ifdef HAVE_CHECK
     if (!strcmp(call, "check")) {
         BOTH(jagwibodu_check(ours, length), twin_check(twins, length));
         return;
     }
-#endif
-#ifdef HAVE_ALLOCATE
     if (!strcmp(call, "allocate")) {
         BOTH(jagwibodu_allocate(ours, length, size), twin_allocate(twins, length, size));
         return;
     }
-#endif
-#ifdef HAVE_RESIZE
     if (!strcmp(call, "resize")) {
         BOTH(jagwibodu_resize(ours, length, address, size), twin_resize(twins, length, address, size));
         return;
     }
-#endif
-#ifdef HAVE_FREE
     if (!strcmp(call, "free")) {
         BOTH(jagwibodu_free(ours, length, address), twin_free(twins, length, address));
         return;
     }
-#endif
     fail("no such call");
 }
 

@@ -1,7 +1,7 @@
 #!/usr/bin/env python3
 """Counts the instructions of a library's heap calls against the plain C twin's.
 
-  table.py --library FILE.. [--prefix NAME] [--calls LIST] [--sizes LIST]
+  table.py --library FILE.. [--prefix NAME] [--sizes LIST]
 
 Prints a Markdown table, how each count grows with the heap, and the library's
 size; the status is 1 if a count is over its limit. All that
@@ -152,9 +152,9 @@ def calls_on(heap):
                 yield name, call, address, size
 
 
-def build(libraries, prefix, have):
+def build(libraries, prefix):
     program = os.path.join(PRODUCTS, "bench")
-    flags = " ".join(f"-DHAVE_{name.upper()} -Djagwibodu_{name}={prefix}{name}" for name in have)
+    flags = " ".join(f"-Djagwibodu_{name}={prefix}{name}" for name in CALLS)
     sources = [os.path.join(ROOT, "bench", name) for name in ("bench.c", "twin.c")]
     subprocess.run([os.path.join(ROOT, "tools", "chost"), "-o", program, *sources, *libraries], check=True,
                    env=dict(os.environ, CFLAGS=flags))
@@ -182,17 +182,15 @@ def saved(name, data):
     return path
 
 
-def rows(program, have, sizes):
+def rows(program, sizes):
     """(length, kind of heap, name of the call, ours, the twin's)"""
     for length in sizes:
-        if "initialise" in have:
-            yield length, "not opened", "initialise", *count(program, saved("zeros.heap", bytes(length)), "initialise", 0, 0)
+        yield length, "not opened", "initialise", *count(program, saved("zeros.heap", bytes(length)), "initialise", 0, 0)
         for kind, make in KINDS.items():
             heap = make(length)
             path = saved(f"{kind.replace(' ', '-')}-{length}.heap", heap.data)
             for name, call, address, size in calls_on(heap):
-                if call in have:
-                    yield length, kind, name, *count(program, path, call, address, size)
+                yield length, kind, name, *count(program, path, call, address, size)
 
 
 def print_growth(counts):
@@ -208,19 +206,17 @@ def options():
     parser = argparse.ArgumentParser(description="Counts instructions against the plain C twin.")
     parser.add_argument("--library", nargs="*", default=[], metavar="FILE", help=".a, .o or .c files with the calls")
     parser.add_argument("--prefix", default="jagwibodu_", help="what the names of the calls begin with")
-    parser.add_argument("--calls", default=",".join(CALLS), help="the calls that the library has")
     parser.add_argument("--sizes", default=",".join(map(str, SIZES)), help="lengths of the heaps")
     return parser.parse_args()
 
 
 def main():
     chosen = options()
-    have = chosen.calls.split(",")
     os.makedirs(PRODUCTS, exist_ok=True)
-    program = build(chosen.library, chosen.prefix, have)
+    program = build(chosen.library, chosen.prefix)
     print("| heap | call | ours | twin | ratio | limit | |\n|---|---|---:|---:|---:|---:|---|")
     over, counts = 0, {}
-    for length, kind, name, ours, twin in rows(program, have, map(int, chosen.sizes.split(","))):
+    for length, kind, name, ours, twin in rows(program, map(int, chosen.sizes.split(","))):
         kept = ours <= limit(twin)
         over += not kept
         counts.setdefault((kind, name), {})[length] = ours

@@ -1,7 +1,7 @@
 #!/usr/bin/env python3
 """Compares a library's heap calls with the second program, call by call and byte by byte.
 
-  compare.py --library FILE.. [--prefix NAME] [--calls LIST] [--seed S] [--number N] [--damaged D]
+  compare.py --library FILE.. [--prefix NAME] [--seed S] [--number N] [--damaged D]
   compare.py --library FILE.. --seed S --only KIND:INDEX
 
 "--library bench/twin.c --prefix twin_" compares the plain C twin. The driver is
@@ -40,10 +40,10 @@ class Difference(Exception):
         self.run, self.index, self.lines = run, index, lines
 
 
-def build_driver(libraries, prefix, have):
+def build_driver(libraries, prefix):
     os.makedirs(PRODUCTS, exist_ok=True)
     driver = os.path.join(PRODUCTS, "driver")
-    flags = " ".join(f"-DHAVE_{name.upper()} -Djagwibodu_{name}={prefix}{name}" for name in have)
+    flags = " ".join(f"-Djagwibodu_{name}={prefix}{name}" for name in CALLS)
     environment = dict(os.environ, CFLAGS=flags)
     source = os.path.join(ROOT, "compare", "driver.c")
     subprocess.run([CHOST, "-o", driver, source, *libraries], check=True, env=environment)
@@ -179,11 +179,11 @@ def check_second(run):
         raise SystemExit(f"compare: {run.label}: the second program lost track of its own heap")
 
 
-def figure_runs(have, figures, counts):
+def figure_runs(figures, counts):
     """Figures of 01. The second program answers what they say, and so must the library."""
     for figure in figures:
         length, _, _ = FIGURES[figure]
-        run = Run(f"figure:{figure}", bytes(length), 0, have, "zeros")
+        run = Run(f"figure:{figure}", bytes(length), 0, "zeros")
         for got, wanted in played(figure, run.call, run.heap.data):
             if got != wanted:
                 raise SystemExit(f"compare: {run.label}: the second program gives {got} instead of {wanted}")
@@ -191,12 +191,12 @@ def figure_runs(have, figures, counts):
         yield run
 
 
-def random_runs(seed, have, number, counts):
+def random_runs(seed, number, counts):
     """Runs until there are this many calls."""
     index = 0
     while counts["calls"] < number:
         label = f"run:{index}"
-        run = random_run(generator(seed, label), label, have)
+        run = random_run(generator(seed, label), label)
         check_second(run)
         counts["calls"] += run.calls
         counts["heaps"] += 1
@@ -204,7 +204,7 @@ def random_runs(seed, have, number, counts):
         yield run
 
 
-def damaged_runs(rng, label, have, count, counts):
+def damaged_runs(rng, label, count, counts):
     """Some damaged heaps made from one sound heap, each with all the calls."""
     low, high = rng.choices(((344, 4600), (4600, 30000), (150000, 1048576)), (10, 88, 2))[0]
     length = rng.randint(low, high)
@@ -212,7 +212,7 @@ def damaged_runs(rng, label, have, count, counts):
     base = sound_heap(rng, length)
     for _ in range(2 if large else count):
         name, data, stays_sound = damaged(rng, base)
-        run = Run(label, data, rng.randrange(8), have, name)
+        run = Run(label, data, rng.randrange(8), name)
         still_sound = run.heap.verdict == 0
         if stays_sound not in (None, still_sound):
             raise SystemExit(f"compare: {label} ({name}): the second program says {run.heap.verdict}")
@@ -233,59 +233,53 @@ def calls_on_damaged(rng, run):
     run.call("check")
 
 
-def all_damaged_runs(seed, have, number, counts):
+def all_damaged_runs(seed, number, counts):
     group = 0
     while counts["damaged"] < number:
         label = f"damaged:{group}"
-        for run in damaged_runs(generator(seed, label), label, have, HEAPS_FROM_ONE, counts):
+        for run in damaged_runs(generator(seed, label), label, HEAPS_FROM_ONE, counts):
             counts["calls"] += run.calls
             yield run
         group += 1
 
 
-def one_run(seed, have, label, counts):
+def one_run(seed, label, counts):
     """The figure, the run, or the damaged heaps, of one label alone."""
     rng = generator(seed, label)
     if label.startswith("figure:"):
-        yield from figure_runs(have, [label.removeprefix("figure:")], counts)
+        yield from figure_runs([label.removeprefix("figure:")], counts)
     elif label.startswith("run:"):
-        yield random_run(rng, label, have)
+        yield random_run(rng, label)
     else:
-        yield from damaged_runs(rng, label, have, HEAPS_FROM_ONE, counts)
+        yield from damaged_runs(rng, label, HEAPS_FROM_ONE, counts)
 
 
 def options():
     parser = argparse.ArgumentParser(description="Compares a library's heap calls with the second program.")
     parser.add_argument("--library", nargs="+", required=True, metavar="FILE", help=".a, .o or .c files with the calls")
     parser.add_argument("--prefix", default="jagwibodu_", help="what the names of the calls begin with")
-    parser.add_argument("--calls", default=",".join(CALLS), help="the calls that the library has")
     parser.add_argument("--seed", default="1")
     parser.add_argument("--number", type=int, default=100000, help="calls in random runs")
     parser.add_argument("--damaged", type=int, default=5000, help="damaged heaps")
     parser.add_argument("--only", metavar="KIND:INDEX", help="one run again, as a failure names it")
-    chosen = parser.parse_args()
-    chosen.calls = chosen.calls.split(",")
-    unknown = set(chosen.calls) - set(CALLS)
-    if unknown:
-        parser.error("no such call: " + ", ".join(sorted(unknown)))
-    return chosen
+    return parser.parse_args()
 
 
 def main():
     chosen = options()
     began = time.monotonic()
     counts = {"figures": 0, "calls": 0, "heaps": 0, "damaged": 0, "still sound": 0}
-    driver = Driver(build_driver(chosen.library, chosen.prefix, chosen.calls))
+    driver = Driver(build_driver(chosen.library, chosen.prefix))
     try:
         if chosen.only:
-            for run in one_run(chosen.seed, chosen.calls, chosen.only, counts):
+            for run in one_run(chosen.seed, chosen.only, counts):
                 driver.add(run)
         else:
-            for run in figure_runs(chosen.calls, FIGURES, counts):
+            for run in figure_runs(FIGURES, counts):
                 driver.add(run)
-            for run in random_runs(chosen.seed, chosen.calls, chosen.number, counts):
+            for run in random_runs(chosen.seed, chosen.number, counts):
                 driver.add(run)
-            for run in all_damaged_runs(chosen.seed, chosen.calls, chosen.damaged, counts):
+            for run in all_damaged_runs(chosen.seed, chosen.damaged, counts):
                 driver.add(run)
         driver.finish()
     except Difference as difference:

@@ -10,9 +10,7 @@
      F address              free
    Answer to each of I, C, A, R and F: the call's answer, the number of ranges, and for each range its
    offset from the buffer's start (as a signed number), its length and its new bytes. Outside the buffer all
-   bytes are FILL until a call changes them.
-
-   HAVE_INITIALISE and the like say which calls the library has. */
+   bytes are FILL until a call changes them. */
 #include "../include/jagwibodu.h"
 
 #include <stdint.h>
@@ -139,34 +137,24 @@ static void answer(uint64_t result)
 static void call(int command)
 {
     switch (command) {
-#ifdef HAVE_INITIALISE
     case 'I':
         answer(jagwibodu_initialise(heap, length));
         break;
-#endif
-#ifdef HAVE_CHECK
     case 'C':
         answer(jagwibodu_check(heap, length));
         break;
-#endif
-#ifdef HAVE_ALLOCATE
     case 'A':
         answer(jagwibodu_allocate(heap, length, read_word()));
         break;
-#endif
-#ifdef HAVE_RESIZE
     case 'R': {
         uint64_t address = read_word();
         uint64_t size = read_word();
         answer(jagwibodu_resize(heap, length, address, size));
         break;
     }
-#endif
-#ifdef HAVE_FREE
     case 'F':
         answer(jagwibodu_free(heap, length, read_word()));
         break;
-#endif
     default:
         fail("no such command");
     }

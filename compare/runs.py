@@ -17,27 +17,22 @@ class Run:
     A step is (call, arguments, answer, writes) or ("poke", position, bytes, None).
     """
 
-    def __init__(self, label, start, shift, have, origin):
+    def __init__(self, label, start, shift, origin):
         self.label = label
         self.origin = origin  # what the bytes at the start are, in a word
         self.start = bytes(start)
-        self.have = have
         self.heap = Heap(bytearray(start))
         self.steps = []
         self.calls = 0
         self.commands = bytearray(struct.pack("<cQQ", b"S", shift, len(start)) + self.start)
 
     def call(self, name, *arguments):
-        """Lets the second program answer; a library without this call is told the bytes instead."""
+        """Lets the second program answer, and the library be asked."""
         refusal, address = getattr(self.heap, name)(*arguments)
         writes, self.heap.writes = self.heap.writes, []
-        if name in self.have:
-            self.commands += CALLS[name] + b"".join(map(WORD.pack, arguments))
-            self.steps.append((name, arguments, refusal << 32 | address, writes))
-            self.calls += 1
-        else:
-            for position, content in writes:
-                self.poke(position, content)
+        self.commands += CALLS[name] + b"".join(map(WORD.pack, arguments))
+        self.steps.append((name, arguments, refusal << 32 | address, writes))
+        self.calls += 1
         return refusal, address
 
     def poke(self, position, content):
@@ -101,7 +96,7 @@ class Player:
         self.place = {}  # address -> its index in live
         self.dead = [0]
         self.forged = [0]  # addresses behind a forged header or tag
-        self.check_share = 0.02 if "allocate" in run.have else 0.5
+        self.check_share = 0.02
         self.set_mood(FILLING)
         self.class_of_run = rng.randrange(CLASSES)
         self.size_makers = rng.choice((
@@ -343,7 +338,7 @@ def invented_heap(rng, length):
 
 def played_heap(rng, length, count):
     """The bytes of a heap after a random run of this many calls."""
-    run = Run("", garbage(rng, length), 0, (), "garbage")
+    run = Run("", garbage(rng, length), 0, "garbage")
     player = Player(rng, run)
     player.begin()
     player.play(count)
@@ -356,13 +351,13 @@ def sound_heap(rng, length):
     return played_heap(rng, length, rng.randint(50, 500))
 
 
-def random_run(rng, label, have):
+def random_run(rng, label):
     """A run over one buffer, from garbage or from any sound heap on."""
     bad = rng.random() < 0.05
     length = rng.choice(BAD_LENGTHS) if bad else random_length(rng)
     invented = not bad and rng.random() < 0.3
     start = invented_heap(rng, length) if invented else garbage(rng, length)
-    run = Run(label, start, rng.randrange(8), have, "sound heap" if invented else "garbage")
+    run = Run(label, start, rng.randrange(8), "sound heap" if invented else "garbage")
     player = Player(rng, run)
     if not invented:
         player.begin()
