@@ -16,7 +16,7 @@ use Rattle.model.specs.Calls.{drawn}
 use Rattle.model.proofs.Sizes.{start-eight, heads-room}
 use Rattle.model.proofs.pictures.Pictures.{draw-append}
 use Rattle.links.specs.Links.{freeWords}
-use Rattle.fresh.specs.Fresh.{lowWords, highWords}
+use Rattle.fresh.specs.Fresh.{beforeHeads, afterHeads}
 
 -- n empty lists' heads from class c on
 abbrev heads : ℕ → ℕ → ℕ → List Word
@@ -63,15 +63,15 @@ module _ {w : ℕ} {h₀ h : List ℕ} {c : ℕ} (i : Clearing w h₀ h c) where
       r
 
 -- the picture of a fresh layout, in the order in which it is written
-fresh-words : {w : ℕ} → Width w → (end : ℕ) → shortest (shape w) ≤ end → words (shape w) end (fresh (shape w) end) ≡ lowWords w end ++ (allHeads w ++ highWords w end)
-unfolding words fixedLow fixedHigh firstFree blockWords headWords headOf own sizeOf lowWords highWords freeWords
+fresh-words : {w : ℕ} → Width w → (end : ℕ) → shortest (shape w) ≤ end → words (shape w) end (fresh (shape w) end) ≡ beforeHeads w end ++ (allHeads w ++ afterHeads w end)
+unfolding words fixedLow fixedHigh firstFree blockWords headWords headOf own sizeOf beforeHeads afterHeads freeWords
 fresh-words {w} wd end h =
     rw (append-assoc (allHeads w) (record { at = indexFarTagAt (shape w); is = indexTag (shape w) } ∷ []) (own (shape w) (replicate (shape w .classes) []) (start (shape w)) 0 0 (free (end - start (shape w))) ++ [])) refl
 
 pub fresh-drawn : {w : ℕ} → Width w → (b h₁ h₂ h₃ : List ℕ) (end : ℕ) → end ≡ endOf (length b) → shortest (shape w) ≤ length b
-    → h₁ ≡ draw w (lowWords w end) (put 8 b 0 (shape w .magic)) → h₂ ≡ draw w (allHeads w) h₁ → h₃ ≡ draw w (highWords w end) h₂
+    → h₁ ≡ draw w (beforeHeads w end) (put 8 b 0 (shape w .magic)) → h₂ ≡ draw w (allHeads w) h₁ → h₃ ≡ draw w (afterHeads w end) h₂
     → h₃ ≡ drawn (shape w) (fresh (shape w) (endOf (length b))) (put 8 b 0 (shape w .magic))
 fresh-drawn {w} wd b h₁ h₂ h₃ end e l e₁ e₂ e₃ =
     let c = put 8 b 0 (shape w .magic) in
     let k : length c ≡ length b = length-put 8 b 0 (shape w .magic) in
-    rw (k, ← e, fresh-words wd end (omega (arith, start-eight wd)), draw-append w (lowWords w end) (allHeads w ++ highWords w end) c, draw-append w (allHeads w) (highWords w end) (draw w (lowWords w end) c), e₃, e₂, e₁) refl
+    rw (k, ← e, fresh-words wd end (omega (arith, start-eight wd)), draw-append w (beforeHeads w end) (allHeads w ++ afterHeads w end) c, draw-append w (allHeads w) (afterHeads w end) (draw w (beforeHeads w end) c), e₃, e₂, e₁) refl

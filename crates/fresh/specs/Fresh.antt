@@ -9,8 +9,8 @@ use Rattle.links.specs.Links.{freeWords}
 
 module _ (w : ℕ) where
   -- before the index page's heads
-  unfoldable pub lowWords : ℕ → List Word
-  lowWords end =
+  unfoldable pub beforeHeads : ℕ → List Word
+  beforeHeads end =
       record { at = dataAt (shape w); is = start (shape w) }
       ∷ record { at = indexAt (shape w); is = index (shape w) }
       ∷ record { at = firstFreeAt (shape w); is = start (shape w) }
@@ -19,8 +19,8 @@ module _ (w : ℕ) where
       ∷ []
 
   -- and after them: the index page's far tag, and the one free block
-  unfoldable pub highWords : ℕ → List Word
-  highWords end = record { at = indexFarTagAt (shape w); is = indexTag (shape w) } ∷ freeWords w (start (shape w)) (end - start (shape w)) 0 0
+  unfoldable pub afterHeads : ℕ → List Word
+  afterHeads end = record { at = indexFarTagAt (shape w); is = indexTag (shape w) } ∷ freeWords w (start (shape w)) (end - start (shape w)) 0 0
 
   -- the end is within the bytes, behind the least free block
   pub record EndRoom (bytes end : ℕ) : Type 0 where

@@ -28,12 +28,12 @@ ghost use Rattle.model.specs.Picture.{draw};
 ghost use Rattle.model.specs.Layout.{headWords};
 ghost use Rattle.model.specs.Rules.{fresh};
 ghost use Rattle.model.specs.Calls.{Lent, drawn};
-ghost use Rattle.fresh.specs.Fresh.{EndRoom, lowWords, highWords};
+ghost use Rattle.fresh.specs.Fresh.{EndRoom, beforeHeads, afterHeads};
 
 // The header's words, up to the index page. The magic number has eight bytes at every word size.
 fn write_header(w: usize, h: &mut [u8], end: Position)
     requires { ⌜ Width w × (shortest (shape w) ≤ length (now h)) ⌝ }
-    ensures { λ _. ⌜ now (h .exit) ≡ draw w (lowWords w (end .0)) (put magicBytes (now (h .entry)) 0 (shape w .magic)) ⌝ }
+    ensures { λ _. ⌜ now (h .exit) ≡ draw w (beforeHeads w (end .0)) (put magicBytes (now (h .entry)) 0 (shape w .magic)) ⌝ }
 {
     let data = start(w);
     put_word(MAGIC_BYTES, h, 0, magic(w));
@@ -60,7 +60,7 @@ fn write_heads(w: usize, h: &mut [u8])
 // The index page's far tag, and the one free block.
 fn write_block(w: usize, h: &mut [u8], end: Position)
     requires { ⌜ EndRoom w (length (now h)) (end .0) ⌝ }
-    ensures { λ _. ⌜ now (h .exit) ≡ draw w (highWords w (end .0)) (now (h .entry)) ⌝ }
+    ensures { λ _. ⌜ now (h .exit) ≡ draw w (afterHeads w (end .0)) (now (h .entry)) ⌝ }
 {
     let data = start(w);
     put_word(w, h, index_far_tag_at(w).0, index_tag(w));

@@ -1,6 +1,6 @@
 use mathlib.Core.Path.{refl}
 use Rattle.model.specs.Picture.{draw}
-use Rattle.fresh.specs.Fresh.{highWords}
+use Rattle.fresh.specs.Fresh.{afterHeads}
 use borrow.Author.Needs.{needs}
 use Rattle.fresh.proofs.write_block.Statement.{statement}
 use Rattle.fresh.proofs.write_block.Tie as tie
@@ -33,7 +33,7 @@ same-length : tie.Need-same-length
 same-length c = search needs
 
 returns : tie.Need-returns
-unfolding draw highWords
+unfolding draw afterHeads
 returns c = rw (c .before .before .put-free .ensures, c .before .before .before .before .before .before .before .before .put-word .ensures, c .before .before .before .before .before .before .before .before .before .index-tag .ensures, c .before .before .before .before .before .before .before .before .before .before .index-far-tag-at .ensures, c .before .before .before .before .before .before .before .before .before .before .before .before .start .ensures) refl
 
 pub write-block-spec : {M : Type 1} → statement M

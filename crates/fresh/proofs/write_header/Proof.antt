@@ -1,7 +1,7 @@
 use native.Mathlib.Omega.{arith}
 use mathlib.Core.Path.{refl}
 use Rattle.model.specs.Picture.{draw}
-use Rattle.fresh.specs.Fresh.{lowWords}
+use Rattle.fresh.specs.Fresh.{beforeHeads}
 use borrow.Author.Needs.{needs}
 use Rattle.fresh.proofs.write_header.Statement.{statement}
 use Rattle.fresh.proofs.write_header.Tie as tie
@@ -63,7 +63,7 @@ same-length : tie.Need-same-length
 same-length c = omega (arith, c .before .before .before .before .before .before .before .before .before .before .before .before .before .before .before .before .before .before .before .before .before .before .before .before .before .before .before .before .before .put-word .kept .1 .0, c .before .before .before .before .before .before .before .before .before .before .before .before .before .before .before .before .before .before .before .before .before .before .before .before .put-word2 .kept .1 .0, c .before .before .before .before .before .before .before .before .before .before .before .before .before .before .before .before .before .before .put-word3 .kept .1 .0, c .before .before .before .before .before .before .before .before .before .before .before .before .before .put-word4 .kept .1 .0, c .before .before .before .before .before .before .before .before .put-word5 .kept .1 .0, c .before .before .put-word6 .kept .1 .0)
 
 returns : tie.Need-returns
-unfolding draw lowWords
+unfolding draw beforeHeads
 returns c = rw (c .before .before .put-word6 .ensures, c .before .before .before .before .before .before .before .before .put-word5 .ensures, c .before .before .before .before .before .before .before .before .before .before .before .before .before .put-word4 .ensures, c .before .before .before .before .before .before .before .before .before .before .before .before .before .before .before .before .before .before .put-word3 .ensures, c .before .before .before .before .before .before .before .before .before .before .before .before .before .before .before .before .before .before .before .before .before .before .before .before .put-word2 .ensures, c .before .before .before .before .before .before .before .before .before .before .before .before .before .before .before .before .before .before .before .before .before .before .before .before .before .before .before .before .before .put-word .ensures, c .before .before .before .index-tag .ensures, c .before .before .before .before .index-tag-at .ensures, c .before .before .before .before .before .before .before .before .before .end-at .ensures, c .before .before .before .before .before .before .before .before .before .before .before .before .before .before .first-free-at .ensures, c .before .before .before .before .before .before .before .before .before .before .before .before .before .before .before .before .before .before .before .index .ensures, c .before .before .before .before .before .before .before .before .before .before .before .before .before .before .before .before .before .before .before .before .index-at .ensures, c .before .before .before .before .before .before .before .before .before .before .before .before .before .before .before .before .before .before .before .before .before .before .before .before .before .data-at .ensures, c .before .before .before .before .before .before .before .before .before .before .before .before .before .before .before .before .before .before .before .before .before .before .before .before .before .before .before .before .before .before .magic .ensures, c .before .before .before .before .before .before .before .before .before .before .before .before .before .before .before .before .before .before .before .before .before .before .before .before .before .before .before .before .before .before .before .before .start .ensures) refl
 
 pub write-header-spec : {M : Type 1} → statement M
