@@ -31,9 +31,9 @@ use Rattle.model.proofs.items.Pop.{popped-here, popped-over}
 use Rattle.model.proofs.items.PopReads.{first-item}
 use Rattle.engine.specs.declared.allocate.Taken.{Taken}
 use Rattle.engine.specs.declared.allocate.Taken.the-variants.{At, NoRoom}
-use Rattle.engine.specs.Blocks.{Needed, Placed}
-use Rattle.engine.specs.Items.{HasItem, TookItem}
-use Rattle.engine.specs.Pages.{NoItem, MadePage}
+use Rattle.placing.specs.Blocks.{Needed, Placed}
+use Rattle.items.specs.Items.{HasItem, TookItem}
+use Rattle.pages.specs.Pages.{NoItem, MadePage}
 use Rattle.engine.specs.Allocate.{GivesItem, GivesBlock, GivesSize}
 use Rattle.engine.specs.Ready.{Ready}
 use Rattle.model.proofs.Sizes.{page-eight, per-page-bound}

@@ -11,8 +11,8 @@ use Rattle.find.specs.declared.VariableBlock.{VariableBlock}
 use Rattle.find.specs.declared.Live.{Live}
 use Rattle.find.specs.declared.Live.the-variants.{Nothing, Item, Variable}
 use Rattle.find.specs.Find.{Finds}
-use Rattle.engine.specs.Items.{ItemLive, GaveItem}
-use Rattle.engine.specs.Release.{BlockLive, Released}
+use Rattle.items.specs.Items.{ItemLive, GaveItem}
+use Rattle.releasing.specs.Release.{BlockLive, Released}
 use Rattle.engine.specs.Free.{isFound, freedBytes, GivesBack}
 use Rattle.engine.specs.Ready.{Ready}
 

@@ -1,7 +1,4 @@
 // Allocate, once the heap is known to be sound and the size to be good.
-use crate::blocks;
-use crate::items;
-use crate::pages;
 use model::Address;
 use model::address_of;
 use model::class_of;
@@ -11,7 +8,7 @@ use model::need_of;
 use model::page_need;
 use words::word;
 ghost use lib.ListN.{length};
-ghost use Rattle.engine.specs.Blocks.{Needed};
+ghost use Rattle.placing.specs.Blocks.{Needed};
 ghost use Rattle.engine.specs.Allocate.{ReadyClass, Asked, GivesItem, GivesBlock, GivesSize};
 ghost use Rattle.engine.specs.Ready.{Ready};
 
@@ -29,7 +26,7 @@ fn an_item(w: usize, h: &mut [u8], c: usize) -> Taken
     if word(w, h, head_at(w, c).0) != 0 {
         return Taken::At(items::take(w, h, c));
     }
-    let p = blocks::find_fit(w, h, page_need(w, c));
+    let p = fitting::find_fit(w, h, page_need(w, c));
     if p.0 == 0 {
         return Taken::NoRoom;
     }
@@ -43,11 +40,11 @@ fn a_block(w: usize, h: &mut [u8], need: usize) -> Taken
     requires { ⌜ Needed w (length (now h)) need ⌝ }
     ensures { λ r. ⌜ GivesBlock w (now (h .entry)) need r (now (h .exit)) ⌝ }
 {
-    let p = blocks::find_fit(w, h, need);
+    let p = fitting::find_fit(w, h, need);
     if p.0 == 0 {
         return Taken::NoRoom;
     }
-    blocks::take(w, h, p, need);
+    placing::take(w, h, p, need);
     Taken::At(address_of(w, p))
 }
 

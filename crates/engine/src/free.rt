@@ -1,9 +1,9 @@
 // What is live at an address is given back.
-use crate::items::give;
-use crate::release::release;
 use find::Live;
 use find::find;
+use items::give;
 use model::Address;
+use releasing::release;
 ghost use Rattle.engine.specs.Free.{GivesBack};
 ghost use Rattle.engine.specs.Ready.{Ready};
 

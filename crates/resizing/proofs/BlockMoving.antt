@@ -22,7 +22,7 @@ use Rattle.engine.specs.declared.allocate.Taken.the-variants.{At}
 use Rattle.resizing.specs.declared.resize.Resized.the-variants as to
 use Rattle.engine.specs.Allocate.{Asked}
 use Rattle.find.specs.Find.{BlockFound}
-use Rattle.engine.specs.Release.{BlockLive, Released}
+use Rattle.releasing.specs.Release.{BlockLive, Released}
 use Rattle.resizing.specs.Move.{Carried, BlockLiveAt, Moves}
 use Rattle.resizing.specs.Mend.{Mendable, Mended}
 use Rattle.resizing.proofs.ResizeLaws.{chosen, carried-in, moved-to, block-holds}

@@ -28,7 +28,7 @@ use Rattle.links.specs.Links.{BackRoom}
 use Rattle.find.specs.Find.{BlockFound}
 use Rattle.resizing.specs.Move.{BlockLiveAt}
 use Rattle.resizing.specs.Mend.{Mendable, Mended}
-use Rattle.engine.proofs.ReleaseLaws.{blocks-are}
+use Rattle.releasing.proofs.ReleaseLaws.{blocks-are}
 
 -- what is read where a block begins
 module _ {w : ℕ} (wd : Width w) {b : List ℕ} {L : Layout} (h : Here (shape w) b L) where

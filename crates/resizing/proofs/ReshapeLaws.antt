@@ -25,14 +25,14 @@ use Rattle.model.proofs.blocks.Taken.{parts, takes-of}
 use Rattle.model.proofs.blocks.Replace.{three}
 use Rattle.model.proofs.blocks.Resizing.{both-ends, resizedIn, resized-valid, stays-same, stays-cut, stays-grown, stays-none}
 use Rattle.find.specs.declared.VariableBlock.{VariableBlock}
-use Rattle.engine.specs.declared.blocks.Gap.{Gap}
+use Rattle.placing.specs.declared.Gap.{Gap}
 use Rattle.find.specs.Find.{BlockFound}
 use Rattle.links.specs.Links.{BackRoom}
-use Rattle.engine.specs.Blocks.{PartRoom, lowWords, highWords}
-use Rattle.engine.specs.Release.{rightAt, rightFree, BlockLive}
+use Rattle.placing.specs.Blocks.{PartRoom, lowWords, highWords}
+use Rattle.releasing.specs.Release.{rightAt, rightFree, BlockLive}
 use Rattle.resizing.specs.Resize.{Reach, Large, Stays, Reshaped}
-use Rattle.engine.proofs.ReleaseLaws.{blocks-are, next-free, RightOf, right-of}
-use Rattle.engine.proofs.Taking.{GapIs, part-need, part-drawn}
+use Rattle.releasing.proofs.ReleaseLaws.{blocks-are, next-free, RightOf, right-of}
+use Rattle.placing.proofs.Taking.{GapIs, part-need, part-drawn}
 use Rattle.model.proofs.Sizes.{words-fit, most-bound}
 
 -- a layout drawn over bytes that have it changes nothing

@@ -30,8 +30,8 @@ use Rattle.resizing.specs.declared.resize.Resized.the-variants as to
 use Rattle.engine.specs.Ready.{Ready}
 use Rattle.find.specs.Find.{Finds}
 use Rattle.engine.specs.Allocate.{Asked}
-use Rattle.engine.specs.Items.{ItemLive, GaveItem}
-use Rattle.engine.specs.Release.{BlockLive}
+use Rattle.items.specs.Items.{ItemLive, GaveItem}
+use Rattle.releasing.specs.Release.{BlockLive}
 use Rattle.engine.specs.Free.{freedBytes, GivesBack}
 use Rattle.resizing.specs.Resize.{Stays, Reshaped}
 use Rattle.resizing.specs.Move.{Holding, Carried, ItemLiveAt, BlockLiveAt, outcomeOf, Moves, MovesOrStays}

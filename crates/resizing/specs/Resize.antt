@@ -12,9 +12,9 @@ use Rattle.model.specs.Rules.{Spot, block, stays}
 use Rattle.model.specs.Calls.{drawn}
 use Rattle.model.specs.inner.Links.{linkOf, backOf}
 use Rattle.find.specs.declared.VariableBlock.{VariableBlock}
-use Rattle.engine.specs.declared.blocks.Gap.{Gap}
+use Rattle.placing.specs.declared.Gap.{Gap}
 use Rattle.find.specs.Find.{BlockFound}
-use Rattle.engine.specs.Release.{rightAt, rightFree}
+use Rattle.releasing.specs.Release.{rightAt, rightFree}
 
 -- the block x and a free neighbour behind it, read as one gap
 pub record Reach (w : ℕ) (b : List ℕ) (x : VariableBlock) (g : Gap) : Type 0 where

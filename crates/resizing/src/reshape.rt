@@ -1,9 +1,4 @@
 // A variable block is resized where it stands: its tail is given back, or it grows over a free neighbour behind it.
-use engine::blocks::Gap;
-use engine::blocks::put_high;
-use engine::blocks::put_low;
-use engine::blocks::taken;
-use engine::release::right_edge;
 use find::VariableBlock;
 use links::back_at;
 use links::link_at;
@@ -11,8 +6,13 @@ use model::Position;
 use model::VARIABLE;
 use model::least_free;
 use model::need_of;
+use placing::Gap;
+use placing::put_high;
+use placing::put_low;
+use placing::taken;
+use releasing::right_edge;
 use words::word;
-ghost use Rattle.engine.specs.Release.{BlockLive};
+ghost use Rattle.releasing.specs.Release.{BlockLive};
 ghost use Rattle.resizing.specs.Resize.{Reach, Large, Reshaped};
 
 // The block x and a free neighbour behind it, read as one gap.

@@ -9,8 +9,8 @@ use Rattle.engine.proofs.allocate.a_block.Statement.{statement}
 use Rattle.engine.proofs.allocate.a_block.Tie as tie
 use Rattle.engine.proofs.allocate.a_block.Reads as reads
 use Rattle.engine.proofs.allocate.a_block.Lts as lts
-use Rattle.engine.proofs.blocks.find_fit.Reads as find-fit-reads
-use Rattle.engine.proofs.blocks.take.Reads as take-reads
+use Rattle.fitting.proofs.find_fit.Reads as find-fit-reads
+use Rattle.placing.proofs.take.Reads as take-reads
 use Rattle.model.proofs.address_of.Reads as address-of-reads
 
 find-fit-requires : tie.Need-find-fit-requires

@@ -9,9 +9,9 @@ use Rattle.engine.proofs.allocate.an_item.Statement.{statement}
 use Rattle.engine.proofs.allocate.an_item.Tie as tie
 use Rattle.engine.proofs.allocate.an_item.Reads as reads
 use Rattle.engine.proofs.allocate.an_item.Lts as lts
-use Rattle.engine.proofs.blocks.find_fit.Reads as find-fit-reads
-use Rattle.engine.proofs.items.take.Reads as take-reads
-use Rattle.engine.proofs.pages.make.Reads as make-reads
+use Rattle.fitting.proofs.find_fit.Reads as find-fit-reads
+use Rattle.items.proofs.take.Reads as take-reads
+use Rattle.pages.proofs.make.Reads as make-reads
 use Rattle.model.proofs.head_at.Reads as head-at-reads
 use Rattle.model.proofs.page_need.Reads as page-need-reads
 use Rattle.words.proofs.word.Reads as word-reads

@@ -4,8 +4,8 @@ use Rattle.engine.proofs.free.free.Statement.{statement}
 use Rattle.engine.proofs.free.free.Tie as tie
 use Rattle.engine.proofs.free.free.Reads as reads
 use Rattle.engine.proofs.free.free.Lts as lts
-use Rattle.engine.proofs.items.give.Reads as give-reads
-use Rattle.engine.proofs.release.release.Reads as release-reads
+use Rattle.items.proofs.give.Reads as give-reads
+use Rattle.releasing.proofs.release.Reads as release-reads
 use Rattle.find.proofs.find.Reads as find-reads
 
 find-requires : tie.Need-find-requires

@@ -8,9 +8,9 @@ use Rattle.resizing.proofs.reshape.reshape.Statement.{statement}
 use Rattle.resizing.proofs.reshape.reshape.Tie as tie
 use Rattle.resizing.proofs.reshape.reshape.Reads as reads
 use Rattle.resizing.proofs.reshape.reshape.Lts as lts
-use Rattle.engine.proofs.blocks.put_high.Reads as put-high-reads
-use Rattle.engine.proofs.blocks.put_low.Reads as put-low-reads
-use Rattle.engine.proofs.blocks.taken.Reads as taken-reads
+use Rattle.placing.proofs.put_high.Reads as put-high-reads
+use Rattle.placing.proofs.put_low.Reads as put-low-reads
+use Rattle.placing.proofs.taken.Reads as taken-reads
 use Rattle.model.proofs.need_of.Reads as need-of-reads
 use Rattle.resizing.proofs.reshape.reach.Reads as reach-reads
 

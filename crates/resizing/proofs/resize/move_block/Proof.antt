@@ -7,7 +7,7 @@ use Rattle.resizing.proofs.resize.move_block.Statement.{statement}
 use Rattle.resizing.proofs.resize.move_block.Tie as tie
 use Rattle.resizing.proofs.resize.move_block.Reads as reads
 use Rattle.resizing.proofs.resize.move_block.Lts as lts
-use Rattle.engine.proofs.release.release.Reads as release-reads
+use Rattle.releasing.proofs.release.Reads as release-reads
 use Rattle.links.proofs.back_at.Reads as back-at-reads
 use Rattle.resizing.proofs.carry.carry.Reads as carry-reads
 use Rattle.resizing.proofs.mend.mend.Reads as mend-reads

@@ -5,7 +5,7 @@ use Rattle.resizing.proofs.resize.resize_item.Statement.{statement}
 use Rattle.resizing.proofs.resize.resize_item.Tie as tie
 use Rattle.resizing.proofs.resize.resize_item.Reads as reads
 use Rattle.resizing.proofs.resize.resize_item.Lts as lts
-use Rattle.engine.proofs.items.give.Reads as give-reads
+use Rattle.items.proofs.give.Reads as give-reads
 use Rattle.model.proofs.class_of.Reads as class-of-reads
 use Rattle.resizing.proofs.carry.carry.Reads as carry-reads
 

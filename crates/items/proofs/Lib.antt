@@ -1,0 +1,2 @@
+mod ItemTaking
+mod GiveLaws

@@ -1,0 +1,39 @@
+// Items: the first of a class's list is taken, and an item in use goes back to the head of its list.
+use model::Address;
+use model::ItemOffset;
+use model::Position;
+use model::address_of;
+use model::free_header;
+use model::head_at;
+use model::held_header;
+use model::item_at;
+use model::next_in;
+use model::offset_of;
+use words::put_word;
+use words::word;
+ghost use Rattle.items.specs.Items.{HasItem, TookItem, GaveItem, ItemLive};
+
+// The first item on the list of class c is taken: its address.
+pub fn take(w: usize, h: &mut [u8], c: usize) -> Address
+    requires { ⌜ HasItem w (now h) c ⌝ }
+    ensures { λ r. ⌜ TookItem w (now (h .entry)) c (r .0) (now (h .exit)) ⌝ }
+{
+    let head = head_at(w, c);
+    let o = ItemOffset(word(w, h, head.0));
+    let q = item_at(w, o);
+    let next = next_in(w, word(w, h, q.0));
+    put_word(w, h, head.0, next.0);
+    put_word(w, h, q.0, held_header(c));
+    address_of(w, q)
+}
+
+// The item in use whose header stands at q, of class c, goes to the head of its list.
+pub fn give(w: usize, h: &mut [u8], q: Position, c: usize)
+    requires { ⌜ ItemLive w (now h) (q .0) c ⌝ }
+    ensures { λ _. ⌜ GaveItem w (now (h .entry)) (q .0) c (now (h .exit)) ⌝ }
+{
+    let head = head_at(w, c);
+    let first = ItemOffset(word(w, h, head.0));
+    put_word(w, h, head.0, offset_of(w, q).0);
+    put_word(w, h, q.0, free_header(c, first));
+}

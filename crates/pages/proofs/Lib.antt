@@ -1,0 +1,2 @@
+mod PageLinks
+mod PageMaking

@@ -1,0 +1,2 @@
+pub mod Taking
+mod Placing
