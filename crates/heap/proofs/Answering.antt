@@ -14,7 +14,7 @@ use Rattle.model.specs.Reading.{ended}
 use Rattle.model.specs.Refusals.{notLive}
 use Rattle.model.specs.Calls.{Told, Checked, found}
 use Rattle.reading.specs.Stepping.{toldKind, toldBlock}
-use Rattle.reading.specs.Holding.{Holds}
+use Rattle.holding.specs.Holding.{Holds}
 use Rattle.reading.specs.declared.stepping.MetBlock.{MetBlock}
 use Rattle.heap.specs.declared.Refusal.{Refusal}
 use Rattle.heap.specs.declared.Verdict.{Verdict}

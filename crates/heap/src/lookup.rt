@@ -4,8 +4,8 @@ use crate::Verdict;
 use crate::WORD;
 use crate::examine;
 use crate::refusal_number;
+use holding::capacity;
 use model::Address;
-use reading::holding::capacity;
 ghost use Rattle.heap.specs.Lookup.{HeldTold, Part, PartTold, RefusalTold};
 
 // How many bytes are live at an address, 0 where refused; and the refusal number.

@@ -3,4 +3,3 @@ mod CountLaws
 pub mod TableLaws
 mod SteppingLaws
 pub mod BlockLaws
-mod HoldingLaws

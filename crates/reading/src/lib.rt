@@ -1,4 +1,3 @@
-// What is read of a heap that is known to be sound: its counts, its blocks one by one, and what an address holds.
+// What is read of a heap that is known to be sound: its counts, and its blocks one by one.
 pub mod counting;
-pub mod holding;
 pub mod stepping;

@@ -8,7 +8,7 @@ use Rattle.heap.proofs.lookup.held_at.Reads as reads
 use Rattle.heap.proofs.lookup.held_at.Lts as lts
 use Rattle.heap.proofs.examine.Reads as examine-reads
 use Rattle.heap.proofs.refusal_number.Reads as refusal-number-reads
-use Rattle.reading.proofs.holding.capacity.Reads as capacity-reads
+use Rattle.holding.proofs.capacity.Reads as capacity-reads
 
 examine-requires : tie.Need-examine-requires
 examine-requires c κs = search needs

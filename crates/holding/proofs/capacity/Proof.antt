@@ -1,10 +1,10 @@
-use Rattle.reading.proofs.HoldingLaws.{holds-none, item-fits, holds-item, block-fits, holds-block}
+use Rattle.holding.proofs.HoldingLaws.{holds-none, item-fits, holds-item, block-fits, holds-block}
 use native.Mathlib.Omega.{arith}
 use borrow.Author.Needs.{needs}
-use Rattle.reading.proofs.holding.capacity.Statement.{statement}
-use Rattle.reading.proofs.holding.capacity.Tie as tie
-use Rattle.reading.proofs.holding.capacity.Reads as reads
-use Rattle.reading.proofs.holding.capacity.Lts as lts
+use Rattle.holding.proofs.capacity.Statement.{statement}
+use Rattle.holding.proofs.capacity.Tie as tie
+use Rattle.holding.proofs.capacity.Reads as reads
+use Rattle.holding.proofs.capacity.Lts as lts
 use Rattle.find.proofs.find.Reads as find-reads
 
 find-requires : tie.Need-find-requires

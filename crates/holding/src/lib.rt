@@ -7,7 +7,7 @@ use model::item_capacity;
 ghost use Rattle.words.specs.Width.{Width};
 ghost use Rattle.model.specs.Shape.{shape};
 ghost use Rattle.model.specs.Sound.{Sound};
-ghost use Rattle.reading.specs.Holding.{Holds};
+ghost use Rattle.holding.specs.Holding.{Holds};
 
 // How many bytes the payload at a has, or 0 where nothing is live.
 pub fn capacity(w: usize, h: &[u8], a: Address) -> usize

@@ -15,7 +15,7 @@ use Rattle.find.specs.declared.VariableBlock.{VariableBlock}
 use Rattle.find.specs.declared.Live.{Live}
 use Rattle.find.specs.declared.Live.the-variants.{Nothing, Item, Variable}
 use Rattle.find.specs.Find.{Finds}
-use Rattle.reading.specs.Holding.{Holds}
+use Rattle.holding.specs.Holding.{Holds}
 
 module _ {w : ℕ} (wd : Width w) (b : List ℕ) (a : ℕ) (k : Sound (shape w) b) (x : Live) (f : (L : Layout) → Here (shape w) b L → Finds w L a x) where
   found-as : (y : Live) → x ≡ y → (L : Layout) → Here (shape w) b L → Finds w L a y
