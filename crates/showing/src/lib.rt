@@ -71,8 +71,8 @@ pub fn write_report(h: &[u8]) {
     }
 }
 
-// Room for the longest heap, and for one byte more, by which a longer input is noticed.
-fn room() -> [u8; MOST_BYTES + 1]
+// Room for the longest heap, and for one byte more, by which a longer one is noticed.
+pub fn room() -> [u8; MOST_BYTES + 1]
     ensures { λ r. ⌜ wide .most + 1 ≡ length r ⌝ }
 {
     [0; MOST_BYTES + 1]

@@ -1,0 +1,115 @@
+#!/usr/bin/env python3
+"""Questions on heaps as the program `ask` reads them, and what it must print, by the second program.
+
+  answer.py --make QUESTIONS LINES    writes an example with every kind of question, granted and refused
+"""
+
+import sys
+import zlib
+
+sys.dont_write_bytecode = True
+from second import DATA_AREA, LONGEST, WORD, Heap
+
+LOOK_UP, STEP, STATISTICS, TABLE, TURN_OVER = range(5)
+TURNED = bytes(range(255, -1, -1))  # each byte with all its bits turned over
+CUT_SHORT, TOO_LONG, NO_QUESTION = (f"stop: {why}" for why in (
+    "the input is cut short", "a heap is too long", "there is no such question"))
+
+
+def look_up_line(heap, address):
+    refusal, part = heap.look_up(address)
+    return f"{refusal} {len(part)} {zlib.adler32(part)}"
+
+
+def step_line(heap, position):
+    refusal, (what, start, size, *rest), behind = heap.step(position)
+    return " ".join(map(str, (refusal, behind, start, size, what, *rest)))
+
+
+def statistics_line(heap, _):
+    refusal, six, _ = heap.statistics()
+    return " ".join(map(str, (refusal, *six)))
+
+
+def table_line(heap, _):
+    return " ".join(["classes"] + [str(n) for row in heap.statistics()[2] for n in row])
+
+
+def turn_over_line(heap, address):
+    _, part = heap.look_up(address)
+    part[:] = bytes(part).translate(TURNED)
+    return str(len(part))
+
+
+LINES = {LOOK_UP: look_up_line, STEP: step_line, STATISTICS: statistics_line, TABLE: table_line,
+         TURN_OVER: turn_over_line}
+
+
+class Asked:
+    """A heap, questions on it, and the line that answers each."""
+
+    def __init__(self, data):
+        self.start = bytes(data)
+        self.heap = Heap(bytearray(data))
+        self.questions = []
+        self.lines = []
+
+    def ask(self, kind, number=0):
+        self.questions.append((kind, number))
+        self.lines.append(LINES[kind](self.heap, number))
+
+    def given(self):
+        """The heap and the questions as the program reads them."""
+        questions = b"".join(bytes([kind]) + WORD.pack(number) for kind, number in self.questions)
+        return b"".join((WORD.pack(len(self.start)), self.start, WORD.pack(len(self.questions)), questions))
+
+
+def sample():
+    """A heap with every kind of block, and with live and free items; its length is no multiple of 8."""
+    heap = Heap(bytearray(b"\x11" * 6001))
+    heap.initialise()
+    addresses = [heap.allocate(size)[1] for size in (300, 500, 280, 200, 199, 198)]
+    heap.free(addresses[1])
+    heap.free(addresses[4])
+    return heap.data
+
+
+def ask_everything(asked):
+    """Each kind of question, where it is granted and where not."""
+    state = Heap(bytearray(sample())).state
+    free, page = state.free[0], next(iter(state.page_class))
+    live = sorted(state.live_addresses())
+    asked.ask(STATISTICS)
+    asked.ask(TABLE)
+    for position in (*state.starts, state.end, 0, 48, DATA_AREA + 8, 2**64 - 8):
+        asked.ask(STEP, position)
+    for kind in (LOOK_UP, TURN_OVER, LOOK_UP):
+        for address in (*live, 0, live[0] + 8, free + 8, page + 8, state.lists[24][0] + 8, state.end, 2**64 - 1):
+            asked.ask(kind, address)
+
+
+def example():
+    """The sample, one that is damaged, one that is not opened, a short and a long one, and a question that there is not."""
+    sound = sample()
+    damaged, closed = bytearray(sound), bytearray(sound)
+    damaged[DATA_AREA] ^= 8
+    closed[0] ^= 1
+    all_asked = [Asked(data) for data in (sound, damaged[:344], closed[:344], b"", bytes(343))]
+    for asked in all_asked:
+        ask_everything(asked)
+    given = b"".join(asked.given() for asked in all_asked)
+    lines = [line for asked in all_asked for line in asked.lines]
+    return given + WORD.pack(0) + WORD.pack(1) + b"\x05" + WORD.pack(0), lines + [NO_QUESTION]
+
+
+def main(words):
+    if len(words) != 3 or words[0] != "--make":
+        sys.exit(__doc__)
+    given, lines = example()
+    with open(words[1], "wb") as questions, open(words[2], "w", encoding="ascii") as text:
+        questions.write(given)
+        text.write("\n".join(lines) + "\n")
+
+
+if __name__ == "__main__":
+    main(sys.argv[1:])

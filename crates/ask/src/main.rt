@@ -1,0 +1,4 @@
+// Answers the questions on heaps that standard input holds.
+fn main() {
+    asking::run();
+}

@@ -1,0 +1,113 @@
+// The kinds of questions, each a public call of `heap`, and their lines.
+use crate::input::stop;
+use crate::payload::sum_of;
+use crate::payload::turn_over;
+use heap::Walk;
+use heap::class_table;
+use heap::look_up;
+use heap::look_up_mut;
+use heap::look_up_refusal;
+use heap::statistics;
+use model::Address;
+use model::MOST_CLASSES;
+use model::Position;
+use reading::stepping::Kind;
+use reading::stepping::MetBlock;
+use showing::text::write;
+use showing::text::write_number;
+
+// Look-up: the refusal number; how many bytes the payload has, and their sum.
+fn answer_look_up(h: &[u8], a: Address) {
+    write_number(b"", look_up_refusal(h, a));
+    let part = look_up(h, a);
+    write_number(b" ", part.len() as u64);
+    write_number(b" ", sum_of(part));
+}
+
+// Look-up for writing: how many bytes the payload has. All are turned over.
+fn answer_turned(h: &mut [u8], a: Address) {
+    let part = look_up_mut(h, a);
+    write_number(b"", part.len() as u64);
+    turn_over(part);
+}
+
+// What a block is.
+fn write_kind(kind: Kind) {
+    match kind {
+        Kind::Free { next, previous } => {
+            write_number(b" free ", next.0 as u64);
+            write_number(b" ", previous.0 as u64);
+        }
+        Kind::Variable => write(b" variable"),
+        Kind::Page { class } => write_number(b" page ", class as u64),
+        Kind::End => write(b" end"),
+    }
+}
+
+// A step of a walk: the refusal number; where the walk then stands; the block's position and size, and what it is.
+fn answer_step(h: &[u8], p: Position) {
+    let walk = Walk { at: p };
+    let step = walk.step(h);
+    write_number(b"", step.refusal);
+    let next = step.walk;
+    write_number(b" ", next.at.0 as u64);
+    let block = step.block;
+    write_number(b" ", block.position.0 as u64);
+    write_number(b" ", block.size as u64);
+    let kind = block.kind;
+    write_kind(kind);
+}
+
+// Statistics: the refusal number, and the six numbers.
+fn answer_statistics(h: &[u8]) {
+    let counted = statistics(h);
+    write_number(b"", counted.refusal);
+    let s = counted.statistics;
+    write_number(b" ", s.free_bytes);
+    write_number(b" ", s.free_blocks);
+    write_number(b" ", s.largest_free);
+    write_number(b" ", s.variables);
+    write_number(b" ", s.pages);
+    write_number(b" ", s.items);
+}
+
+// A class's pages, live items and free items.
+fn write_row(row: [u64; 3]) {
+    write_number(b" ", row[0]);
+    write_number(b" ", row[1]);
+    write_number(b" ", row[2]);
+}
+
+// The table of classes: three numbers a class.
+fn answer_table(h: &[u8]) {
+    let rows = class_table(h);
+    write(b"classes");
+    let mut c = 0;
+    while c < MOST_CLASSES {
+        write_row(rows[c]);
+        c += 1;
+    }
+}
+
+// The line of a question that only reads. Whether there is such a kind.
+fn answer_reading(h: &[u8], kind: u8, n: u64) -> bool {
+    match kind {
+        0 => answer_look_up(h, Address(n as usize)),
+        1 => answer_step(h, Position(n as usize)),
+        2 => answer_statistics(h),
+        3 => answer_table(h),
+        _ => return stop(b"stop: there is no such question\n"),
+    }
+    write(b"\n");
+    true
+}
+
+// The line of a question of a kind, with a number. Whether there is such a kind.
+pub fn answer(h: &mut [u8], kind: u8, n: u64) -> bool {
+    if kind == 4 {
+        answer_turned(h, Address(n as usize));
+        write(b"\n");
+        return true;
+    }
+    answer_reading(h, kind, n)
+}
