@@ -1,8 +1,10 @@
 # `make` tells what there is. See README.md.
 
-# compare: so many calls and so many damaged heaps, from this seed.
+# compare: so many calls and so many damaged heaps; compare-ask and compare-show: so many heaps; all from this seed.
 N ?= 100000
 DAMAGED ?= 5000
+ASKED ?= 2000
+SHOWN ?= 200
 SEED ?= 1
 # install: where to.
 PREFIX ?= /usr/local
@@ -10,11 +12,12 @@ PREFIX ?= /usr/local
 LIBRARY = target/staticlib/libjagwibodu.a
 VERSION = $(shell sed -n 's/.*JAGWIBODU_VERSION "\(.*\)".*/\1/p' include/jagwibodu.h)
 
-.PHONY: help test run show show-heap compare-show lib install example compare compare-twin bench
+.PHONY: help test run show ask inputs same-inputs lib install example compare compare-ask compare-show compare-twin bench
 
 help:
 	@echo 'make run      proves the call-list program and runs it on an example (LIST=file: on that list)'
 	@echo 'make show     proves the report program and runs it on an example (HEAP=file: on that heap)'
+	@echo 'make ask      proves the question program and runs it on an example (QUESTIONS=file: on those)'
 	@echo 'make lib      proves the library and leaves $(LIBRARY), for C'
 	@echo 'make install  puts the header, the library and a pkg-config file below PREFIX ($(PREFIX))'
 	@echo 'make test     runs every test'
@@ -22,32 +25,40 @@ help:
 
 # Everything is proved once, and the comparisons and the example run on what that left; the last line is 'N passed, 0 failed'.
 test:
-	tools/gate compare compare-show example
+	tools/gate same-inputs compare compare-ask compare-show example
 
-# The call-list program, proved and then run on document 01's example, or on the list that LIST names.
+# The program $(1) is proved with all that it stands on, which is told crate by crate, and then runs on the file $(2).
+define proved-and-run
+	@mkdir -p target
+	@echo 'proving $(1) and what it stands on (some minutes the first time)'
+	@{ rt check $(1) 2>&1 || echo 'rt: failed'; } | tee target/$(1).log | sed -un '/^rt: .* proved/p'
+	@if tail -n 1 target/$(1).log | grep -q '^rt: ok'; then tools/chost -r target/bin/$(1) < $(2); else cat target/$(1).log; exit 1; fi
+endef
+
+# The call-list program, on document 01's example or on the list that LIST names.
 run:
-	@mkdir -p target
-	@echo 'proving the call-list program and what it stands on (some minutes the first time)'
-	@rt check calls > target/run.log 2>&1 || { cat target/run.log; exit 1; }
-	@tail -n 1 target/run.log
-	@tools/chost -r target/bin/calls < $(or $(LIST),crates/calls/stdin)
+	$(call proved-and-run,calls,$(or $(LIST),crates/calls/stdin))
 
-# The report on a heap, proved and then run on an example, or on the file that HEAP names.
+# The report on a heap, on an example or on the file that HEAP names.
 show:
-	@mkdir -p target
-	@echo 'proving the report program and what it stands on (some minutes the first time)'
-	@rt check show > target/show.log 2>&1 || { cat target/show.log; exit 1; }
-	@tail -n 1 target/show.log
-	@tools/chost -r target/bin/show < $(or $(HEAP),crates/show/stdin)
+	$(call proved-and-run,show,$(or $(HEAP),crates/show/stdin))
 
-# That example, and the report that the second program gives on it: the gate holds the program to it.
-show-heap:
-	python3 compare/report.py --make crates/show/stdin crates/show/stdout
+# Questions on heaps, on an example or on the file that QUESTIONS names.
+ask:
+	$(call proved-and-run,ask,$(or $(QUESTIONS),crates/ask/stdin))
 
-# The program's reports on random heaps, and on bytes that are none, against the second program's.
-compare-show:
-	rt check show
-	python3 compare/reports.py 50 $(SEED) tools/chost -r target/bin/show
+# What the gate runs longcalls, show and ask on, and what each must print, by the second program.
+INPUTS = crates
+inputs:
+	mkdir -p $(INPUTS)/longcalls $(INPUTS)/show $(INPUTS)/ask
+	python3 compare/longlist.py 20000 1 $(INPUTS)/longcalls/stdin $(INPUTS)/longcalls/stdout
+	python3 compare/report.py --make $(INPUTS)/show/stdin $(INPUTS)/show/stdout
+	python3 compare/answer.py --make $(INPUTS)/ask/stdin $(INPUTS)/ask/stdout
+
+# The files in crates/ are what that makes.
+same-inputs:
+	$(MAKE) --no-print-directory inputs INPUTS=target/inputs
+	for file in longcalls/stdin longcalls/stdout show/stdin show/stdout ask/stdin ask/stdout; do cmp target/inputs/$$file crates/$$file || exit 1; done
 
 # The archive for C, in target/staticlib.
 lib:
@@ -70,10 +81,20 @@ example:
 	diff examples/console-small.out target/console-small.out
 	if command -v c++ > /dev/null; then c++ -std=c++11 -Wall -Wextra -Werror -fsyntax-only -x c++ -I$(INSTALLED)/include examples/console.c; fi
 
-# The figures that are run, long random runs and damaged heaps: the library against the second program.
+# The figures that are run, long random runs and damaged heaps, and the stack: the library against the second program.
 compare: lib
 	python3 compare/second.py
 	python3 compare/compare.py --library $(LIBRARY) --number $(N) --damaged $(DAMAGED) --seed $(SEED)
+
+# Every call that reads, and the report, on random heaps, damaged ones, and bytes that are none, against the second program's.
+compare-ask:
+	rt check ask
+	python3 compare/answers.py $(ASKED) $(SEED) tools/chost -r target/bin/ask
+
+# The report program itself, a start a heap; compare-ask has many more of the same reports from a single start.
+compare-show:
+	rt check show
+	python3 compare/reports.py $(SHOWN) $(SEED) $$(tools/chost -w target/bin/show)
 
 # The twin that bench measures against must itself be right.
 compare-twin:

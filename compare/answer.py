@@ -1,18 +1,19 @@
 #!/usr/bin/env python3
 """Questions on heaps as the program `ask` reads them, and what it must print, by the second program.
 
-  answer.py --make QUESTIONS LINES    writes an example with every kind of question, granted and refused
+  answer.py --make QUESTIONS ANSWERS    writes an example with every kind of question, granted and refused
 """
 
 import sys
 import zlib
 
 sys.dont_write_bytecode = True
-from second import DATA_AREA, LONGEST, WORD, Heap
+from report import report
+from second import DATA_AREA, WORD, Heap
 
-LOOK_UP, STEP, STATISTICS, TABLE, TURN_OVER = range(5)
+LOOK_UP, STEP, STATISTICS, TABLE, REPORT, TURN_OVER = range(6)
 TURNED = bytes(range(255, -1, -1))  # each byte with all its bits turned over
-CUT_SHORT, TOO_LONG, NO_QUESTION = (f"stop: {why}" for why in (
+CUT_SHORT, TOO_LONG, NO_QUESTION = (f"stop: {why}\n" for why in (
     "the input is cut short", "a heap is too long", "there is no such question"))
 
 
@@ -35,28 +36,32 @@ def table_line(heap, _):
     return " ".join(["classes"] + [str(n) for row in heap.statistics()[2] for n in row])
 
 
+def report_lines(heap, _):
+    return "\n".join(report(heap)) + "\n"
+
+
 def turn_over_line(heap, address):
     _, part = heap.look_up(address)
     part[:] = bytes(part).translate(TURNED)
     return str(len(part))
 
 
-LINES = {LOOK_UP: look_up_line, STEP: step_line, STATISTICS: statistics_line, TABLE: table_line,
-         TURN_OVER: turn_over_line}
+ANSWERS = {LOOK_UP: look_up_line, STEP: step_line, STATISTICS: statistics_line, TABLE: table_line,
+           REPORT: report_lines, TURN_OVER: turn_over_line}
 
 
 class Asked:
-    """A heap, questions on it, and the line that answers each."""
+    """A heap, questions on it, and what answers each: a line, or of a report many."""
 
     def __init__(self, data):
         self.start = bytes(data)
         self.heap = Heap(bytearray(data))
         self.questions = []
-        self.lines = []
+        self.answers = []
 
     def ask(self, kind, number=0):
         self.questions.append((kind, number))
-        self.lines.append(LINES[kind](self.heap, number))
+        self.answers.append(ANSWERS[kind](self.heap, number) + "\n")
 
     def given(self):
         """The heap and the questions as the program reads them."""
@@ -81,6 +86,7 @@ def ask_everything(asked):
     live = sorted(state.live_addresses())
     asked.ask(STATISTICS)
     asked.ask(TABLE)
+    asked.ask(REPORT)
     for position in (*state.starts, state.end, 0, 48, DATA_AREA + 8, 2**64 - 8):
         asked.ask(STEP, position)
     for kind in (LOOK_UP, TURN_OVER, LOOK_UP):
@@ -97,18 +103,18 @@ def example():
     all_asked = [Asked(data) for data in (sound, damaged[:344], closed[:344], b"", bytes(343))]
     for asked in all_asked:
         ask_everything(asked)
-    given = b"".join(asked.given() for asked in all_asked)
-    lines = [line for asked in all_asked for line in asked.lines]
-    return given + WORD.pack(0) + WORD.pack(1) + b"\x05" + WORD.pack(0), lines + [NO_QUESTION]
+    answers = "".join(answer for asked in all_asked for answer in asked.answers)
+    none_such = WORD.pack(0) + WORD.pack(1) + bytes([TURN_OVER + 1]) + WORD.pack(0)
+    return b"".join(asked.given() for asked in all_asked) + none_such, answers + NO_QUESTION
 
 
 def main(words):
     if len(words) != 3 or words[0] != "--make":
         sys.exit(__doc__)
-    given, lines = example()
+    given, answers = example()
     with open(words[1], "wb") as questions, open(words[2], "w", encoding="ascii") as text:
         questions.write(given)
-        text.write("\n".join(lines) + "\n")
+        text.write(answers)
 
 
 if __name__ == "__main__":

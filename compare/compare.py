@@ -29,6 +29,7 @@ CHOST = os.path.join(ROOT, "tools", "chost")
 GUARD_FILL = b"\xa5"
 BATCH_BYTES = 16 << 20
 TIME_LIMIT = 120  # seconds for one batch, of which an emulator needs some
+STACK = struct.Struct("<QQQ")  # what the driver says last
 HEAPS_FROM_ONE = 25  # damaged heaps made from the same sound one
 
 
@@ -56,6 +57,7 @@ class Driver:
     def __init__(self, program):
         self.program = program
         self.batch, self.waiting = [], 0
+        self.measured, self.deepest, self.promised = 0, 0, 0  # calls whose stack was measured, the most bytes, the header's
 
     def add(self, run):
         self.batch.append(run)
@@ -69,8 +71,11 @@ class Driver:
         at = 0
         for run in batch:
             at = check_run(run, answers, at, status)
-        if status != 0 or at != len(answers):
-            raise SystemExit(f"compare: the driver ended with status {status}, {len(answers) - at} bytes too many")
+        if status != 0 or at + STACK.size != len(answers):
+            raise SystemExit(f"compare: the driver ended with status {status}, {len(answers) - at} bytes after the last answer")
+        measured, deepest, self.promised = STACK.unpack_from(answers, at)
+        self.measured += measured
+        self.deepest = max(self.deepest, deepest)
 
     def execute(self, commands):
         """All answers, and the status of the driver or what stopped it."""
@@ -254,6 +259,15 @@ def one_run(seed, label, counts):
         yield from damaged_runs(rng, label, HEAPS_FROM_ONE, counts)
 
 
+def stack_used(driver, calls, limit):
+    """The deepest call in words; fails where it is deeper than the limit, or than the header promises."""
+    limit = limit or driver.promised
+    said = f"the deepest of {driver.measured} calls used {driver.deepest} of {limit} bytes of stack"
+    if driver.measured * 10 < calls or not 0 < driver.deepest <= limit:
+        raise SystemExit(f"compare: {said}")
+    return said
+
+
 def options():
     parser = argparse.ArgumentParser(description="Compares a library's heap calls with the second program.")
     parser.add_argument("--library", nargs="+", required=True, metavar="FILE", help=".a, .o or .c files with the calls")
@@ -261,6 +275,7 @@ def options():
     parser.add_argument("--seed", default="1")
     parser.add_argument("--number", type=int, default=100000, help="calls in random runs")
     parser.add_argument("--damaged", type=int, default=5000, help="damaged heaps")
+    parser.add_argument("--stack", type=int, metavar="BYTES", help="what a call may use, where it is not the header's")
     parser.add_argument("--only", metavar="KIND:INDEX", help="one run again, as a failure names it")
     return parser.parse_args()
 
@@ -285,9 +300,10 @@ def main():
     except Difference as difference:
         report(difference, chosen.seed)
         return 1
+    stack = stack_used(driver, counts["calls"], chosen.stack)
     print(f"compare: {counts['figures']} figures, and from seed {chosen.seed} {counts['calls']} calls on "
           f"{counts['heaps']} heaps and {counts['damaged']} damaged heaps ({counts['still sound']} of them still sound) "
-          f"agree, {time.monotonic() - began:.0f} s")
+          f"agree, {stack}, {time.monotonic() - began:.0f} s")
     return 0
 
 

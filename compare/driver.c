@@ -10,7 +10,8 @@
      F address              free
    Answer to each of I, C, A, R and F: the call's answer, the number of ranges, and for each range its
    offset from the buffer's start (as a signed number), its length and its new bytes. Outside the buffer all
-   bytes are FILL until a call changes them. */
+   bytes are FILL until a call changes them.
+   At the end: of how many calls the stack was measured, the most bytes of it that one used, and JAGWIBODU_STACK. */
 #include "../include/jagwibodu.h"
 
 #include <stdint.h>
@@ -126,6 +127,47 @@ static void write_changes(void)
     }
 }
 
+/* The stack that a call uses is measured: the stretch below the caller's frame is painted, the call is made, and the
+   lowest word that then has another colour tells how deep it went. A call's frame stands where the frame of `paint`
+   stood, since both are called from the same function. What is counted begins at that function's own frame, so it is a
+   little more than the call used, and never less. Calls on long heaps need most, so all of them are measured, and of the
+   others every eighth. */
+#define PAINTED 65536
+#define COLOUR 0x5c5c5c5c5c5c5c5cu
+#define LONG 65536
+
+static volatile uint64_t *lowest; /* the lowest painted word; NULL where the call is not measured */
+static uint64_t measured;
+static uint64_t deepest;
+
+/* The words are volatile: else the compiler leaves out what nobody reads before the function returns. */
+static __attribute__((noinline)) void paint(void)
+{
+    static uint64_t calls;
+    volatile uint64_t stretch[PAINTED / 8];
+
+    lowest = NULL;
+    if (length <= LONG && calls++ % 8 != 0)
+        return;
+    for (size_t i = 0; i < PAINTED / 8; i++)
+        stretch[i] = COLOUR;
+    lowest = stretch;
+}
+
+/* How far below `frame` the call went. */
+static __attribute__((noinline)) void measure(const uint8_t *frame)
+{
+    volatile uint64_t *at = lowest;
+
+    if (at == NULL)
+        return;
+    while ((const uint8_t *)at < frame && *at == COLOUR)
+        at++;
+    measured++;
+    if ((uint64_t)(frame - (const uint8_t *)at) > deepest)
+        deepest = (uint64_t)(frame - (const uint8_t *)at);
+}
+
 /* Each answer is flushed, so that a call that never comes back is known by what is missing. */
 static void answer(uint64_t result)
 {
@@ -134,30 +176,40 @@ static void answer(uint64_t result)
     fflush(stdout);
 }
 
-static void call(int command)
+static __attribute__((noinline)) uint64_t called(int command, uint64_t first, uint64_t second)
 {
+    uint64_t result = 0;
+
+    paint();
     switch (command) {
     case 'I':
-        answer(jagwibodu_initialise(heap, length));
+        result = jagwibodu_initialise(heap, length);
         break;
     case 'C':
-        answer(jagwibodu_check(heap, length));
+        result = jagwibodu_check(heap, length);
         break;
     case 'A':
-        answer(jagwibodu_allocate(heap, length, read_word()));
+        result = jagwibodu_allocate(heap, length, first);
         break;
-    case 'R': {
-        uint64_t address = read_word();
-        uint64_t size = read_word();
-        answer(jagwibodu_resize(heap, length, address, size));
+    case 'R':
+        result = jagwibodu_resize(heap, length, first, second);
         break;
-    }
     case 'F':
-        answer(jagwibodu_free(heap, length, read_word()));
+        result = jagwibodu_free(heap, length, first);
         break;
     default:
         fail("no such command");
     }
+    measure(__builtin_frame_address(0));
+    return result;
+}
+
+static void call(int command)
+{
+    uint64_t first = command == 'A' || command == 'R' || command == 'F' ? read_word() : 0;
+    uint64_t second = command == 'R' ? read_word() : 0;
+
+    answer(called(command, first, second));
 }
 
 int main(void)
@@ -172,5 +224,8 @@ int main(void)
         else
             call(command);
     }
+    write_word(measured);
+    write_word(deepest);
+    write_word(JAGWIBODU_STACK);
     return 0;
 }

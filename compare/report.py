@@ -5,6 +5,7 @@
   report.py --make HEAP REPORT    writes a heap with every kind of block, and the report on it
 """
 
+import bisect
 import sys
 
 sys.dont_write_bytecode = True
@@ -42,28 +43,28 @@ def block_lines(heap):
     return lines
 
 
-def mark(state, position):
-    """The character of the block that this position lies in."""
-    start = max(p for p in state.starts if p <= position)
-    kind, _ = state.blocks[start]
+def mark(state, block):
+    """The character of a block."""
+    kind, _ = state.blocks[block]
     if kind == PAGE:
-        return str(min(9, 10 * held_in(state, start) // len(state.items_of_page(start))))
+        return str(min(9, 10 * held_in(state, block) // len(state.items_of_page(block))))
     return {FREE: ".", VARIABLE: "#"}[kind]
 
 
 def map_lines(state):
     part = (state.end - DATA_AREA) // CHARACTERS + 1
-    marks = "".join(mark(state, position) for position in range(DATA_AREA, state.end, part))
+    marks = [mark(state, block) for block in state.starts]
+    shown = "".join(marks[bisect.bisect_right(state.starts, position) - 1] for position in range(DATA_AREA, state.end, part))
     head = f"map: each character is {part} bytes, and shows the block at the first of them: . free, # variable, 0 to 9 page by tenths of its items in use (9: nine or ten)"
-    return [head] + [marks[i:i + COLUMNS] for i in range(0, len(marks), COLUMNS)]
+    return [head] + [shown[i:i + COLUMNS] for i in range(0, len(shown), COLUMNS)]
 
 
-def report(data):
-    heap = Heap(bytearray(data))
+def report(heap):
+    """The lines of the report on a heap of the second program."""
     refusal, six, table = heap.statistics()
     if refusal:
         lines = [f"check: {refusal} {NAMES[refusal]}"]
-        return lines + [f"the input is too long: more than {LONGEST} bytes"] * (len(data) > LONGEST)
+        return lines + [f"the input is too long: more than {LONGEST} bytes"] * (len(heap.data) > LONGEST)
     state = heap.state
     payloads = [f"{a} {state.capacity(a)}" for a in sorted(state.live_addresses())]
     return (["check: sound", "", "statistics"] + [f"{name} {n}" for name, n in zip(STATISTICS, six)]
@@ -95,18 +96,18 @@ def sample():
     for address in large[1:6:2] + half[::2] + empty + few[:1]:
         granted(heap.free(address))
     granted(heap.resize(large[0], 288))
-    return heap.data
+    return heap
 
 
 def main(words):
     if words[0] == "--make":
-        data = sample()
-        with open(words[1], "wb") as heap, open(words[2], "w") as text:
-            heap.write(data)
-            text.write("\n".join(report(data)) + "\n")
+        heap = sample()
+        with open(words[1], "wb") as file, open(words[2], "w", encoding="ascii") as text:
+            file.write(heap.data)
+            text.write("\n".join(report(heap)) + "\n")
     else:
-        with open(words[0], "rb") as heap:
-            print("\n".join(report(heap.read())))
+        with open(words[0], "rb") as file:
+            print("\n".join(report(Heap(bytearray(file.read())))))
 
 
 if __name__ == "__main__":

@@ -1,40 +1,26 @@
 #!/usr/bin/env python3
-"""Runs the program `show` on random heaps, on full ones, and on bytes that are none, and compares with report.py.
+"""Runs the program `show` on many heaps, sound and damaged, on full ones, and on bytes that are none, and compares with report.py.
 
   reports.py COUNT SEED COMMAND..    COMMAND.. runs the program, with the heap on standard input
 """
 
+import os
 import random
 import subprocess
 import sys
+import time
+from concurrent.futures import ThreadPoolExecutor
 
 sys.dont_write_bytecode = True
+from heaps import Tally, enough_heaps, note, some_heaps
 from report import report
-from second import LONGEST, SHORTEST, Heap
-
-
-def opened(length):
-    heap = Heap(bytearray(length))
-    heap.initialise()
-    return heap
-
-
-def random_heap(choose):
-    heap, live = opened(choose.randint(SHORTEST, 60000)), []
-    small = choose.random()
-    for _ in range(choose.randint(0, 300)):
-        if live and choose.random() < 0.4:
-            heap.free(live.pop(choose.randrange(len(live))))
-            continue
-        size = choose.randint(1, 256) if choose.random() < small else choose.randint(257, 3000)
-        refusal, address = heap.allocate(size)
-        live += [address] * (refusal == 0)
-    return heap.data
+from second import LONGEST, Heap
 
 
 def filled(size, keep):
     """The longest heap, full of records of one size, of which every second one may be freed again."""
-    heap, live = opened(LONGEST), []
+    heap, live = Heap(bytearray(LONGEST)), []
+    heap.initialise()
     while True:
         refusal, address = heap.allocate(size)
         if refusal:
@@ -42,25 +28,41 @@ def filled(size, keep):
         live.append(address)
     for address in [] if keep else live[::2]:
         heap.free(address)
-    return heap.data
+    return bytes(heap.data)
 
 
-def no_heaps(choose):
-    damaged = bytearray(random_heap(choose))
-    damaged[312] ^= 8
-    return [bytes(n) for n in (0, SHORTEST - 1, SHORTEST, LONGEST, LONGEST + 1, 2 * LONGEST)] + [damaged]
+def cases(rng, count):
+    """What each case is, and its bytes."""
+    yield "longer than the program reads", bytes(2 * LONGEST)
+    yield "full of the smallest items", filled(1, True)
+    yield "full of blocks, every second one free", filled(257, False)
+    for what, data, _ in some_heaps(rng, count):
+        yield what, data
+
+
+def compare(command, case):
+    """Runs the program on a case: what the case is, the second program's heap, and the bytes where the two reports differ."""
+    what, data = case
+    told = subprocess.run(command, input=data, stdout=subprocess.PIPE, check=True).stdout.decode()
+    heap = Heap(bytearray(data))
+    return what, heap, None if told == "\n".join(report(heap)) + "\n" else data
 
 
 def main(count, seed, command):
-    choose = random.Random(seed)
-    cases = no_heaps(choose) + [filled(1, True), filled(257, False)] + [random_heap(choose) for _ in range(count)]
-    for data in cases:
-        told = subprocess.run(command, input=bytes(data), stdout=subprocess.PIPE, check=True).stdout.decode()
-        if told != "\n".join(report(data)) + "\n":
-            with open("target/differs.heap", "wb") as heap:
-                heap.write(data)
-            sys.exit("the report differs on target/differs.heap")
-    print(f"show: {len(cases)} reports are the second program's")
+    began = time.monotonic()
+    tally = Tally()
+    # Most of the time goes into starts of the program, so as many run at a time as there are processors.
+    with ThreadPoolExecutor(os.cpu_count()) as pool:
+        for what, heap, differing in pool.map(lambda case: compare(command, case), cases(random.Random(f"{seed} reports"), count)):
+            if differing is not None:
+                with open("target/differs.heap", "wb") as file:
+                    file.write(differing)
+                sys.exit("show: the report on target/differs.heap differs")
+            note(tally, what, heap)
+    tally.demand(enough_heaps(count))
+    print(f"show: the reports on {tally['heaps']} heaps, {tally['refused']} of them refused, are the second program's, "
+          f"{time.monotonic() - began:.0f} s")
 
 
-main(int(sys.argv[1]), int(sys.argv[2]), sys.argv[3:])
+if __name__ == "__main__":
+    main(int(sys.argv[1]), int(sys.argv[2]), sys.argv[3:])

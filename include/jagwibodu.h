@@ -11,8 +11,8 @@
    A heap holds positions only, so it may be copied, saved and read back at another place. Addresses are multiples of 8
    from the buffer's start: align the buffer to 8 where records are to be cast to structs. Calls on one buffer need
    their caller's lock; calls on different buffers need none. A null buffer must have the length 0, and gets
-   JAGWIBODU_BAD_LENGTH. A call uses the registers that C's calling convention gives it, no more than 17 KiB of stack,
-   and nothing but the buffer and the C library's memset. */
+   JAGWIBODU_BAD_LENGTH. A call uses the registers that C's calling convention gives it, no more than JAGWIBODU_STACK bytes
+   of stack, and nothing but the buffer and the C library's memset. */
 #ifndef JAGWIBODU_H
 #define JAGWIBODU_H
 
@@ -28,6 +28,9 @@ extern "C" {
 /* The lengths that a buffer may have; the largest size that can be asked for is the latter too. */
 #define JAGWIBODU_SHORTEST 344
 #define JAGWIBODU_LONGEST 1048576
+
+/* The most bytes of stack that a call uses, as measured on calls of every kind. */
+#define JAGWIBODU_STACK 17408
 
 enum jagwibodu_refusal {
     JAGWIBODU_GRANTED = 0,

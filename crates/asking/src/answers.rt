@@ -1,4 +1,4 @@
-// The kinds of questions, each a public call of `heap`, and their lines.
+// The kinds of questions, each a public call of `heap` or the report of `showing`, and their lines.
 use crate::input::stop;
 use crate::payload::sum_of;
 use crate::payload::turn_over;
@@ -15,6 +15,7 @@ use reading::stepping::Kind;
 use reading::stepping::MetBlock;
 use showing::text::write;
 use showing::text::write_number;
+use showing::write_report;
 
 // Look-up: the refusal number; how many bytes the payload has, and their sum.
 fn answer_look_up(h: &[u8], a: Address) {
@@ -89,22 +90,24 @@ fn answer_table(h: &[u8]) {
     }
 }
 
-// The line of a question that only reads. Whether there is such a kind.
+// A question that only reads: 0 look-up, 1 a walk's step, 2 statistics, 3 the table of classes, 4 the report. Whether there is such a kind.
 fn answer_reading(h: &[u8], kind: u8, n: u64) -> bool {
     match kind {
         0 => answer_look_up(h, Address(n as usize)),
         1 => answer_step(h, Position(n as usize)),
         2 => answer_statistics(h),
         3 => answer_table(h),
+        4 => write_report(h),
         _ => return stop(b"stop: there is no such question\n"),
     }
     write(b"\n");
     true
 }
 
-// The line of a question of a kind, with a number. Whether there is such a kind.
+// A question of a kind, with a number that is an address, a position or nothing: those that only read, and 5, look-up for writing.
+// Its answer is a line, the report's many. Whether there is such a kind.
 pub fn answer(h: &mut [u8], kind: u8, n: u64) -> bool {
-    if kind == 4 {
+    if kind == 5 {
         answer_turned(h, Address(n as usize));
         write(b"\n");
         return true;

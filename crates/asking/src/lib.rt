@@ -1,4 +1,4 @@
-// Questions on heaps: standard input holds a heap and questions on it, again and again, and each answer is a line.
+// Questions on heaps: standard input holds a heap and questions on it, again and again; each is answered in turn.
 // A heap is its length and its bytes, then the number of questions, and each question a byte of kind and a number. Numbers have 8 bytes,
 // the lowest first. Input that is not so is told, and ends the program.
 pub mod answers;

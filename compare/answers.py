@@ -1,0 +1,183 @@
+#!/usr/bin/env python3
+"""Asks the program `ask` every kind of question on many heaps, sound and damaged, and compares with answer.py.
+
+  answers.py COUNT SEED COMMAND..    COMMAND.. runs the program, with heaps and questions on standard input
+"""
+
+import random
+import subprocess
+import sys
+import tempfile
+import time
+
+sys.dont_write_bytecode = True
+from answer import CUT_SHORT, LOOK_UP, NO_QUESTION, REPORT, STATISTICS, STEP, TABLE, TOO_LONG, TURN_OVER, Asked, sample
+from heaps import LONG, Tally, enough_heaps, note, some_heaps
+from second import DATA_AREA, LONGEST, VARIABLE, WORD
+
+HUGE = (2**32, 2**63, 2**64 - 8, 2**64 - 1)
+STEPS_OF_A_LONG_HEAP = 20
+
+
+def some(rng, places, most):
+    """A few of these places, or none where there are none."""
+    places = list(places)
+    return rng.sample(places, min(most, len(places)))
+
+
+def addresses(rng, state, length):
+    """Addresses of each kind, by its name. Only those of the first two kinds are live."""
+    blocks = [p + 8 for p in state.starts if state.blocks[p][0] == VARIABLE]
+    items = [p + 8 for p in state.item_class]
+    free_items = [p + 8 for items_of_class in state.lists for p in items_of_class]
+    live = some(rng, blocks + items, 3)
+    inside = [a + rng.randrange(1, state.capacity(a)) for a in live]
+    return {"live block": some(rng, blocks, 4), "live item": some(rng, items, 4),
+            "free block": [p + 8 for p in some(rng, state.free, 2)], "free item": some(rng, free_items, 2),
+            "page": [p + 8 for p in some(rng, state.page_class, 2)],
+            "inside": inside + [a + 8 for a in live] + [a - 8 for a in live],
+            "past the end": [state.end, state.end + 8, length + rng.randrange(1, 2**20)],
+            "zero": [0], "huge": [rng.choice(HUGE), rng.choice(live or [320]) + 2**32]}
+
+
+def positions(rng, state, length):
+    """Positions at which no block begins, by their kind."""
+    starts = some(rng, state.starts, 2)
+    inside = [p + 8 * rng.randrange(1, state.blocks[p][1] // 8) for p in starts]
+    return {"no block's": [0, 40, 48, DATA_AREA - 8, *inside, *(p + 1 for p in starts)],
+            "beyond the end": [state.end, state.end + 8, length + rng.randrange(2**20), rng.choice(HUGE)]}
+
+
+def ask_places(rng, asked, state, tally):
+    """Look-ups and single steps, at places of every kind."""
+    refused = " in a refused heap" * (asked.heap.verdict != 0)
+    for what, found in addresses(rng, state, len(asked.start)).items():
+        for address in found:
+            asked.ask(LOOK_UP, address)
+            tally[f"look-up, {what}{refused}"] += 1
+    for what, found in positions(rng, state, len(asked.start)).items():
+        for position in found:
+            asked.ask(STEP, position)
+            tally[f"step, {what}{refused}"] += 1
+
+
+def ask_walk(asked, state, tally):
+    """Every block from the start on, and the end twice; of a long heap some blocks alone."""
+    if asked.heap.verdict:
+        blocks = state.starts[:3]
+    elif len(asked.start) > LONG:
+        blocks = state.starts[:STEPS_OF_A_LONG_HEAP] + state.starts[-STEPS_OF_A_LONG_HEAP:]
+    else:
+        blocks = list(asked.heap.state.starts)
+        tally["walk to the end"] += 1
+    tally["step, a block's"] += 0 if asked.heap.verdict else len(blocks)
+    for position in blocks + 2 * [state.end]:
+        asked.ask(STEP, position)
+
+
+def ask_writing(rng, asked, state, tally):
+    """Payloads lent for writing, and places where nothing is; then what all of them and some others hold."""
+    chosen = addresses(rng, state, len(asked.start))
+    written = some(rng, chosen["live block"] + chosen["live item"], 3)
+    for address in written + [0, rng.choice(chosen["past the end"] + chosen["inside"])]:
+        asked.ask(TURN_OVER, address)
+    tally["written"] += 0 if asked.heap.verdict else len(written)
+    for address in written + some(rng, chosen["live block"] + chosen["live item"], 3):
+        asked.ask(LOOK_UP, address)
+
+
+def ask_all(rng, what, data, state, tally):
+    asked = Asked(data)
+    note(tally, what, asked.heap)
+    if asked.heap.state:
+        state = asked.heap.state  # a change that leaves a heap sound may still change what is live
+    asked.ask(STATISTICS)
+    asked.ask(TABLE)
+    asked.ask(REPORT)
+    ask_places(rng, asked, state, tally)
+    ask_walk(asked, state, tally)
+    ask_writing(rng, asked, state, tally)
+    asked.ask(STATISTICS)
+    for kind, _ in asked.questions:
+        tally[kind] += 1
+    return asked
+
+
+def answers_of(command, given):
+    """What the program prints."""
+    with tempfile.TemporaryFile() as questions:
+        questions.write(given)
+        questions.seek(0)
+        return subprocess.run(command, stdin=questions, stdout=subprocess.PIPE, check=True).stdout.decode("ascii")
+
+
+def compare(command, all_asked):
+    got = answers_of(command, b"".join(asked.given() for asked in all_asked))
+    at = 0
+    for asked in all_asked:
+        for question, answer in zip(asked.questions, asked.answers):
+            if not got.startswith(answer, at):
+                with open("target/differs.heap", "wb") as file:
+                    file.write(asked.start)
+                sys.exit(f"ask: of the heap target/differs.heap, question {question}: expected\n{answer}got\n{got[at:at + len(answer)]}")
+            at += len(answer)
+    if at != len(got):
+        sys.exit(f"ask: more than was asked for: {got[at:at + 80]}")
+
+
+def bad_inputs():
+    """Input that is not as it should be, and what it gets; and, last, input that is."""
+    asked = Asked(sample()[:344])
+    for position in (312, 48):
+        asked.ask(STEP, position)
+    given, size = asked.given(), 9  # of a question
+    behind_heap = 8 + len(asked.start)
+    first, both = asked.answers[0], "".join(asked.answers)
+    for cut in (1, 7, 8, 9, behind_heap - 1, behind_heap, behind_heap + 7):
+        yield given[:cut], CUT_SHORT
+    for more in (0, 1, size - 1):
+        yield given[:behind_heap + 8 + more], CUT_SHORT
+        yield given[:behind_heap + 8 + size + more], first + CUT_SHORT
+    for length in (LONGEST + 2, 2**32, 2**64 - 1):
+        yield given + WORD.pack(length) + given, both + TOO_LONG
+    for kind in (TURN_OVER + 1, 255):
+        yield given[:-size] + bytes([kind]) + given[1 - size:], first + NO_QUESTION
+    yield given, both
+    yield b"", ""
+
+
+def compare_bad_inputs(command):
+    count = 0
+    for given, answer in bad_inputs():
+        got = answers_of(command, given)
+        if got != answer:
+            sys.exit(f"ask: on the input {given.hex()}: expected\n{answer}got\n{got}")
+        count += 1
+    return count
+
+
+def enough(count):
+    """How often each case must be met, of so many heaps."""
+    least = {f"look-up, {what}": count // 5 for what in (
+        "live block", "live item", "free block", "free item", "page", "inside", "past the end", "zero", "huge")}
+    least |= {f"look-up, {what} in a refused heap": count // 10 for what in ("live block", "live item", "inside", "zero")}
+    least |= {"step, a block's": 2 * count, "step, no block's": count, "step, beyond the end": count,
+              "step, no block's in a refused heap": count, "walk to the end": count // 4, "written": count // 2}
+    least |= {kind: count for kind in (LOOK_UP, STEP, STATISTICS, TABLE, REPORT, TURN_OVER)}
+    return least | enough_heaps(count)
+
+
+def main(count, seed, command):
+    began = time.monotonic()
+    rng, tally = random.Random(f"{seed} answers"), Tally()
+    compare(command, [ask_all(rng, what, data, state, tally) for what, data, state in some_heaps(rng, count)])
+    bad = compare_bad_inputs(command)
+    tally.demand(enough(count))
+    print(f"ask: on {tally['heaps']} heaps, {tally['refused']} of them refused, the answers to {tally[LOOK_UP]} look-ups, "
+          f"{tally[STEP]} steps ({tally['walk to the end']} walks to the end), {tally[STATISTICS]} statistics, {tally[TABLE]} tables, "
+          f"{tally[TURN_OVER]} look-ups for writing and {tally[REPORT]} reports are the second program's, and so is what {bad} bad or short "
+          f"inputs get, {time.monotonic() - began:.0f} s")
+
+
+if __name__ == "__main__":
+    main(int(sys.argv[1]), int(sys.argv[2]), sys.argv[3:])
