@@ -11,7 +11,7 @@ sys.dont_write_bytecode = True
 from report import report
 from second import DATA_AREA, WORD, Heap
 
-LOOK_UP, STEP, STATISTICS, TABLE, REPORT, TURN_OVER = range(6)
+LOOK_UP, STEP, FIRST_STEP, STATISTICS, TABLE, REPORT, TURN_OVER = range(7)
 TURNED = bytes(range(255, -1, -1))  # each byte with all its bits turned over
 CUT_SHORT, TOO_LONG, NO_QUESTION = (f"stop: {why}\n" for why in (
     "the input is cut short", "a heap is too long", "there is no such question"))
@@ -25,6 +25,10 @@ def look_up_line(heap, address):
 def step_line(heap, position):
     refusal, (what, start, size, *rest), behind = heap.step(position)
     return " ".join(map(str, (refusal, behind, start, size, what, *rest)))
+
+
+def first_step_line(heap, _):
+    return step_line(heap, DATA_AREA)
 
 
 def statistics_line(heap, _):
@@ -46,8 +50,8 @@ def turn_over_line(heap, address):
     return str(len(part))
 
 
-ANSWERS = {LOOK_UP: look_up_line, STEP: step_line, STATISTICS: statistics_line, TABLE: table_line,
-           REPORT: report_lines, TURN_OVER: turn_over_line}
+ANSWERS = {LOOK_UP: look_up_line, STEP: step_line, FIRST_STEP: first_step_line, STATISTICS: statistics_line,
+           TABLE: table_line, REPORT: report_lines, TURN_OVER: turn_over_line}
 
 
 class Asked:
@@ -87,6 +91,7 @@ def ask_everything(asked):
     asked.ask(STATISTICS)
     asked.ask(TABLE)
     asked.ask(REPORT)
+    asked.ask(FIRST_STEP)
     for position in (*state.starts, state.end, 0, 48, DATA_AREA + 8, 2**64 - 8):
         asked.ask(STEP, position)
     for kind in (LOOK_UP, TURN_OVER, LOOK_UP):

@@ -11,7 +11,8 @@ import tempfile
 import time
 
 sys.dont_write_bytecode = True
-from answer import CUT_SHORT, LOOK_UP, NO_QUESTION, REPORT, STATISTICS, STEP, TABLE, TOO_LONG, TURN_OVER, Asked, sample
+from answer import (CUT_SHORT, FIRST_STEP, LOOK_UP, NO_QUESTION, REPORT, STATISTICS, STEP, TABLE, TOO_LONG, TURN_OVER, Asked,
+                    sample)
 from heaps import LONG, Tally, enough_heaps, note, some_heaps
 from second import DATA_AREA, LONGEST, VARIABLE, WORD
 
@@ -71,6 +72,7 @@ def ask_walk(asked, state, tally):
         blocks = list(asked.heap.state.starts)
         tally["walk to the end"] += 1
     tally["step, a block's"] += 0 if asked.heap.verdict else len(blocks)
+    asked.ask(FIRST_STEP)
     for position in blocks + 2 * [state.end]:
         asked.ask(STEP, position)
 
@@ -163,7 +165,7 @@ def enough(count):
     least |= {f"look-up, {what} in a refused heap": count // 10 for what in ("live block", "live item", "inside", "zero")}
     least |= {"step, a block's": 2 * count, "step, no block's": count, "step, beyond the end": count,
               "step, no block's in a refused heap": count, "walk to the end": count // 4, "written": count // 2}
-    least |= {kind: count for kind in (LOOK_UP, STEP, STATISTICS, TABLE, REPORT, TURN_OVER)}
+    least |= {kind: count for kind in (LOOK_UP, STEP, FIRST_STEP, STATISTICS, TABLE, REPORT, TURN_OVER)}
     return least | enough_heaps(count)
 
 
@@ -174,7 +176,7 @@ def main(count, seed, command):
     bad = compare_bad_inputs(command)
     tally.demand(enough(count))
     print(f"ask: on {tally['heaps']} heaps, {tally['refused']} of them refused, the answers to {tally[LOOK_UP]} look-ups, "
-          f"{tally[STEP]} steps ({tally['walk to the end']} walks to the end), {tally[STATISTICS]} statistics, {tally[TABLE]} tables, "
+          f"{tally[STEP] + tally[FIRST_STEP]} steps ({tally['walk to the end']} walks to the end), {tally[STATISTICS]} statistics, {tally[TABLE]} tables, "
           f"{tally[TURN_OVER]} look-ups for writing and {tally[REPORT]} reports are the second program's, and so is what {bad} bad or short "
           f"inputs get, {time.monotonic() - began:.0f} s")
 

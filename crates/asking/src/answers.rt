@@ -46,8 +46,7 @@ fn write_kind(kind: Kind) {
 }
 
 // A step of a walk: the refusal number; where the walk then stands; the block's position and size, and what it is.
-fn answer_step(h: &[u8], p: Position) {
-    let walk = Walk { at: p };
+fn answer_step(h: &[u8], walk: Walk) {
     let step = walk.step(h);
     write_number(b"", step.refusal);
     let next = step.walk;
@@ -90,24 +89,31 @@ fn answer_table(h: &[u8]) {
     }
 }
 
-// A question that only reads: 0 look-up, 1 a walk's step, 2 statistics, 3 the table of classes, 4 the report. Whether there is such a kind.
+// A question that only reads: 0 look-up, 1 a walk's step, 2 its first step, 3 statistics, 4 the table of classes, 5 the report.
+// Whether there is such a kind.
 fn answer_reading(h: &[u8], kind: u8, n: u64) -> bool {
     match kind {
         0 => answer_look_up(h, Address(n as usize)),
-        1 => answer_step(h, Position(n as usize)),
-        2 => answer_statistics(h),
-        3 => answer_table(h),
-        4 => write_report(h),
+        1 => answer_step(
+            h,
+            Walk {
+                at: Position(n as usize),
+            },
+        ),
+        2 => answer_step(h, Walk::start()),
+        3 => answer_statistics(h),
+        4 => answer_table(h),
+        5 => write_report(h),
         _ => return stop(b"stop: there is no such question\n"),
     }
     write(b"\n");
     true
 }
 
-// A question of a kind, with a number that is an address, a position or nothing: those that only read, and 5, look-up for writing.
+// A question of a kind, with a number that is an address, a position or nothing: those that only read, and 6, look-up for writing.
 // Its answer is a line, the report's many. Whether there is such a kind.
 pub fn answer(h: &mut [u8], kind: u8, n: u64) -> bool {
-    if kind == 5 {
+    if kind == 6 {
         answer_turned(h, Address(n as usize));
         write(b"\n");
         return true;
