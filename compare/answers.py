@@ -36,7 +36,7 @@ def addresses(rng, state, length):
     return {"live block": some(rng, blocks, 4), "live item": some(rng, items, 4),
             "free block": [p + 8 for p in some(rng, state.free, 2)], "free item": some(rng, free_items, 2),
             "page": [p + 8 for p in some(rng, state.page_class, 2)],
-            "inside": inside + [a + 8 for a in live] + [a - 8 for a in live],
+            "inside": inside, "near": [a + 8 for a in live] + [a - 8 for a in live],
             "past the end": [state.end, state.end + 8, length + rng.randrange(1, 2**20)],
             "zero": [0], "huge": [rng.choice(HUGE), rng.choice(live or [320]) + 2**32]}
 
@@ -161,7 +161,7 @@ def compare_bad_inputs(command):
 def enough(count):
     """How often each case must be met, of so many heaps."""
     least = {f"look-up, {what}": count // 5 for what in (
-        "live block", "live item", "free block", "free item", "page", "inside", "past the end", "zero", "huge")}
+        "live block", "live item", "free block", "free item", "page", "inside", "near", "past the end", "zero", "huge")}
     least |= {f"look-up, {what} in a refused heap": count // 10 for what in ("live block", "live item", "inside", "zero")}
     least |= {"step, a block's": 2 * count, "step, no block's": count, "step, beyond the end": count,
               "step, no block's in a refused heap": count, "walk to the end": count // 4, "written": count // 2}

@@ -130,31 +130,25 @@ static void write_changes(void)
 /* The stack that a call uses is measured: the stretch below the caller's frame is painted, the call is made, and the
    lowest word that then has another colour tells how deep it went. A call's frame stands where the frame of `paint`
    stood, since both are called from the same function. What is counted begins at that function's own frame, so it is a
-   little more than the call used, and never less. Calls on long heaps need most, so all of them are measured, and of the
-   others every eighth. */
+   little more than the call used, and never less. */
 #define PAINTED 65536
 #define COLOUR 0x5c5c5c5c5c5c5c5cu
-#define LONG 65536
 
-static volatile uint64_t *lowest; /* the lowest painted word; NULL where the call is not measured */
+static volatile uint64_t *lowest; /* the lowest painted word; NULL where nothing is painted */
 static uint64_t measured;
 static uint64_t deepest;
 
 /* The words are volatile: else the compiler leaves out what nobody reads before the function returns. */
 static __attribute__((noinline)) void paint(void)
 {
-    static uint64_t calls;
     volatile uint64_t stretch[PAINTED / 8];
 
-    lowest = NULL;
-    if (length <= LONG && calls++ % 8 != 0)
-        return;
     for (size_t i = 0; i < PAINTED / 8; i++)
         stretch[i] = COLOUR;
     lowest = stretch;
 }
 
-/* How far below `frame` the call went. */
+/* How far below `frame` the call went, where the stack was painted. */
 static __attribute__((noinline)) void measure(const uint8_t *frame)
 {
     volatile uint64_t *at = lowest;
@@ -163,9 +157,43 @@ static __attribute__((noinline)) void measure(const uint8_t *frame)
         return;
     while ((const uint8_t *)at < frame && *at == COLOUR)
         at++;
+    lowest = NULL;
     measured++;
     if ((uint64_t)(frame - (const uint8_t *)at) > deepest)
         deepest = (uint64_t)(frame - (const uint8_t *)at);
+}
+
+/* A function whose use of the stack is known shows that measuring works; then counting begins. */
+#define KNOWN 8192
+
+static __attribute__((noinline)) void use_known(void)
+{
+    volatile uint64_t stretch[KNOWN / 8];
+
+    for (size_t i = 0; i < KNOWN / 8; i++)
+        stretch[i] = 0;
+    (void)stretch[0];
+}
+
+static __attribute__((noinline)) void try_measure(void)
+{
+    paint();
+    use_known();
+    measure(__builtin_frame_address(0));
+    if (deepest < KNOWN || deepest > KNOWN + 256)
+        fail("the stack is not measured right");
+    measured = 0;
+    deepest = 0;
+}
+
+/* Calls on long heaps need most stack, so all of them are measured, and of the others every eighth. */
+#define LONG 65536
+
+static int is_measured(void)
+{
+    static uint64_t calls;
+
+    return length > LONG || calls++ % 8 == 0;
 }
 
 /* Each answer is flushed, so that a call that never comes back is known by what is missing. */
@@ -180,7 +208,8 @@ static __attribute__((noinline)) uint64_t called(int command, uint64_t first, ui
 {
     uint64_t result = 0;
 
-    paint();
+    if (is_measured())
+        paint();
     switch (command) {
     case 'I':
         result = jagwibodu_initialise(heap, length);
@@ -216,6 +245,7 @@ int main(void)
 {
     int command;
 
+    try_measure();
     while ((command = getchar()) != EOF) {
         if (command == 'S')
             set_heap();

@@ -29,7 +29,7 @@ extern "C" {
 #define JAGWIBODU_SHORTEST 344
 #define JAGWIBODU_LONGEST 1048576
 
-/* The most bytes of stack that a call uses, as measured on calls of every kind. */
+/* No call uses more bytes of stack; the tests measure it. */
 #define JAGWIBODU_STACK 17408
 
 enum jagwibodu_refusal {
