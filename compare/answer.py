@@ -100,7 +100,8 @@ def ask_everything(asked):
 
 
 def example():
-    """The sample, one that is damaged, one that is not opened, a short and a long one, and a question that there is not."""
+    """The sample, one that is damaged, one that is not opened, two that are too short, and a question
+    that there is not."""
     sound = sample()
     damaged, closed = bytearray(sound), bytearray(sound)
     damaged[DATA_AREA] ^= 8
