@@ -12,7 +12,6 @@ use model::Address;
 use model::MOST_CLASSES;
 use model::Position;
 use reading::stepping::Kind;
-use reading::stepping::MetBlock;
 use showing::text::write;
 use showing::text::write_number;
 use showing::write_report;
