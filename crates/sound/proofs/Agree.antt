@@ -10,13 +10,14 @@ use borrow.Author.Tests.{eq-eqb, ne-eqb}
 use Rattle.words.specs.Width.{Width}
 use Rattle.words.specs.Word.{wordAt}
 use Rattle.words.specs.Bits.{bitAt}
+use Rattle.words.proofs.BitLaws.{beyond-clear}
 use Rattle.model.specs.Shape.{shape, index, start, itemAt}
 use Rattle.model.specs.Parts.{classIn, firstFreeAt, headAt, firstItemAt}
 use Rattle.model.specs.Layout.{Slot, variable, page, Block, free, used, useSize, sizeOf}
 use Rattle.model.specs.Sound.{times, idleSlots, idleIn, idleItems}
 use Rattle.model.proofs.pictures.Drawn.{times-append}
 use Rattle.sound.specs.Onward.{Slots, useKind, Headers, Reads, freeIn, freeItems}
-use Rattle.sound.specs.Maps.{NoMarks, offsetBit, offsetAtBit, indexBit}
+use Rattle.sound.specs.Maps.{offsetBit, offsetAtBit}
 use Rattle.sound.specs.Lists.{FreeItemAt, Chain, Chains, flat, Listed, Filled}
 use Rattle.sound.specs.Told.{BlocksMarked}
 use Rattle.model.proofs.items.Offsets.{items-off}
@@ -24,7 +25,7 @@ use Rattle.sound.proofs.ItemHeaders.{slots-header, items-header}
 use Rattle.sound.proofs.Chained.{chain-item, chain-few, chains-at}
 use Rattle.sound.proofs.OneLayout.{blocks-one}
 use Rattle.model.proofs.Sizes.{start-eight, class-few}
-use Rattle.sound.proofs.Places.{index-offset, offset-back}
+use Rattle.sound.proofs.Places.{offset-none, offset-back}
 
 module _ {w : ℕ} (wd : Width w) (b : List ℕ) (x : ℕ) where
   -- the class that the header at offset x says
@@ -86,14 +87,14 @@ module _ {w : ℕ} (wd : Width w) (b : List ℕ) (x : ℕ) where
     pub flat-once : (ls : List (List ℕ)) → Chains w b end 0 ls → times x (flat ls) ≤ 1
     flat-once ls k = omega (arith, flat-class ls k, chain-few wd b end class (wordAt w b (headAt (shape w) class)) x (getD ls class []) (chains-at wd b end ls k class (class-few wd (wordAt w b (itemAt (shape w) x)))))
 
-module _ {w : ℕ} (wd : Width w) (b : List ℕ) (end : ℕ) (m₀ m : List ℕ) (clear : NoMarks w m₀ 0) (walk : BlocksMarked w b end (start (shape w)) 0 false (wordAt w b (firstFreeAt (shape w))) m₀ m) where
+module _ {w : ℕ} (wd : Width w) (b : List ℕ) (end : ℕ) (m : List ℕ) (walk : BlocksMarked w b end (start (shape w)) 0 false (wordAt w b (firstFreeAt (shape w))) [] m) where
   mark : (j : ℕ) → bitAt m j ≡ times (offsetAtBit w j) (freeItems w (start (shape w)) (walk .onward .rest))
-  mark j = omega (arith, walk .adds .at j, clear .from j (omega arith))
+  mark j = omega (arith, walk .adds .at j, beyond-clear [] j (omega arith))
 
   -- the end of a list has no mark
-  pub index-clear : bitAt m (indexBit w) ≡ 0
-  index-clear =
-      let f : bitAt m (indexBit w) ≡ times 0 (freeItems w (start (shape w)) (walk .onward .rest)) = rw (index-offset wd) at (mark (indexBit w)) in
+  pub end-clear : bitAt m 0 ≡ 0
+  end-clear =
+      let f : bitAt m 0 ≡ times 0 (freeItems w (start (shape w)) (walk .onward .rest)) = rw (offset-none wd) at (mark 0) in
       f
       ∙ free-class wd b 0 (start (shape w)) 0 (walk .onward .rest) (omega arith) (walk .onward .reads)
       ∙ go (decLe 1 (times 0 (idleItems (shape w) (class wd b 0) (start (shape w)) (walk .onward .rest))))

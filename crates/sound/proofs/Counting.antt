@@ -1,5 +1,5 @@
 -- Laws of the count along the item lists: what a test tells of the lists, and why counting is enough.
-use Prim.Native.Nat.{ℕ, suc, _+_, _-_, _%_, _≤_, _<_}
+use Prim.Native.Nat.{ℕ, zero, suc, _+_, _-_, _%_, _^_, _≤_, _<_}
 use mathlib.Core.Path.{_≡_, refl, sym, ap, _∙_}
 use mathlib.Core.Bool.{cond}
 use mathlib.Core.List.{List, [], _∷_}
@@ -7,6 +7,7 @@ use native.Mathlib.Omega.{arith}
 use native.Mathlib.Decide.{ℕ-discrete, decLe}
 use lib.ListN.{length, length-append}
 use lib.Dec.{eqb}
+use lib.Bits.{bitOr, or-add-and, and-le-l, and-le-r}
 use borrow.Author.Tests.{eq-eqb, ne-eqb}
 use Rattle.words.specs.Width.{Width}
 use Rattle.words.specs.Word.{wordAt}
@@ -16,23 +17,22 @@ use Rattle.model.specs.Parts.{freeMark, classAndFlags, nextIn, headAt}
 use Rattle.model.specs.Sound.{times}
 use Rattle.model.proofs.pictures.Drawn.{times-append}
 use Rattle.model.proofs.Sizes.{zero-even}
-use Rattle.sound.specs.Maps.{Marked, itemBit, atBit, offsetBit, offsetAtBit, indexBit}
+use Rattle.sound.specs.Maps.{Marked, offsetBit, offsetAtBit, atBit}
 use Rattle.sound.specs.Lists.{FreeItemAt, named, Chain, Chains, flat, ListCounted, Listed}
-use Rattle.sound.specs.Told.{ListTold}
-use Rattle.sound.specs.declared.Marks.{Marks}
-use Rattle.sound.specs.declared.Marks.the-variants.{Unsound, Count}
+use Rattle.sound.specs.Told.{NextBit, ListTold, FourEmpty}
+use Rattle.sound.specs.declared.map.Marks.{Marks}
+use Rattle.sound.specs.declared.map.Marks.the-variants.{Unsound, Count}
 use Rattle.sound.proofs.Tellings.{no-count, count-no, count-same}
 use Rattle.sound.proofs.MapLaws.{bit-low, same-bit, fewer, all-met}
 use Rattle.sound.proofs.Chained.{same-chain}
 use Rattle.sound.proofs.Agree.{flat-item, flat-once}
-use Rattle.sound.proofs.Places.{offset-bit-low, offset-back, bit-back, index-offset, place, offset-zero, offset-even, bit-is, inside, outside, next-even}
+use Rattle.sound.proofs.Places.{offset-none, offset-back, offset-zero, offset-even, bit-is, next-even}
 
--- the count of a list's items stands at the item of bit i, or at the end, with n left
+-- the count of a list's items stands at the item of bit i, or at the end, with n left; or, where an item was of another class, beyond every map
 pub record ListInv (w : ℕ) (b : List ℕ) (end c o : ℕ) (m : List ℕ) (before n i : ℕ) : Type 0 where
   pub width : Width w
   pub ahead : (r : ℕ) → ListCounted w b end c o m before r → ListCounted w b end c (offsetAtBit w i) m n r
-  pub back : (r : ℕ) → ListCounted w b end c (offsetAtBit w i) m n r → ListCounted w b end c o m before r
-  pub from : indexBit w ≤ i
+  pub back : i < 2 ^ 32 → (r : ℕ) → ListCounted w b end c (offsetAtBit w i) m n r → ListCounted w b end c o m before r
 
 list-no : {w : ℕ} {b : List ℕ} {end c o : ℕ} {m : List ℕ} {n : ℕ} → ((r : ℕ) → ListCounted w b end c o m n r → ⊥) → ListTold w b end c o m n Unsound
 list-no f = record { is-no = λ _. f; is-yes = λ r y. absurd (no-count y) }
@@ -61,18 +61,18 @@ list-head {w} wd {b} {end} {c} {o} f = list-no (λ s r. go (r .list) (r .chain))
 pub list-start : {w : ℕ} → Width w → {b : List ℕ} {end c o : ℕ} {m : List ℕ} {n i : ℕ} → o % w ≡ 0 → i ≡ offsetBit w o → ListInv w b end c o m n n i
 list-start {w} wd {b} {end} {c} {o} e ei =
     let f : offsetAtBit w (offsetBit w o) ≡ o = offset-back wd o e in
-    rw ei (record { width = wd; ahead = λ s r. rw f r; back = λ s r. rw f at r; from = offset-bit-low wd o })
+    rw ei (record { width = wd; ahead = λ s r. rw f r; back = λ _ s r. rw f at r })
 
 module _ {w : ℕ} {b : List ℕ} {end c o : ℕ} {m : List ℕ} {before n i : ℕ} (v : ListInv w b end c o m before n i) where
-  pub list-done : i ≡ indexBit w → ListTold w b end c o m before (Count n)
+  pub list-done : i ≡ 0 → ListTold w b end c o m before (Count n)
   unfolding Chain times
-  list-done e = list-ends (v .back n (record { list = []; chain = rw e (index-offset (v .width)); set = λ x q. absurd (omega arith); count = omega arith }))
+  list-done e = list-ends (v .back (omega arith) n (record { list = []; chain = rw e (offset-none (v .width)); set = λ x q. absurd (omega arith); count = omega arith }))
 
   -- the end of a list has no mark
-  pub list-more : bitAt m (indexBit w) ≡ 0 → bitAt m i ≡ 1 → i ≡ indexBit w → ⊥
-  list-more f s e = let t : bitAt m (indexBit w) ≡ 1 = rw e at s in omega arith
+  pub list-more : bitAt m 0 ≡ 0 → bitAt m i ≡ 1 → i ≡ 0 → ⊥
+  list-more f s e = let t : bitAt m 0 ≡ 1 = rw e at s in omega arith
 
-  module _ (z : i ≡ indexBit w → ⊥) where
+  module _ (z : i ≡ 0 → ⊥) where
     -- what a list has at its head
     record Head (r : ℕ) : Type 0 where
       here : FreeItemAt w b end c (offsetAtBit w i)
@@ -85,11 +85,11 @@ module _ {w : ℕ} {b : List ℕ} {end c o : ℕ} {m : List ℕ} {before n i : �
     head-of s r = go (r .list) (r .chain) (r .set) (r .count)
       where
         go : (l : List ℕ) → Chain w b end c (offsetAtBit w i) l → ((x : ℕ) → 1 ≤ times x l → bitAt m (offsetBit w x) ≡ 1) → length l + s ≡ n → Head s
-        go [] h g t = absurd (z (offset-zero (v .width) i (v .from) h))
+        go [] h g t = absurd (z (offset-zero (v .width) i h))
         go (x ∷ xs) h g t =
             record {
               here = rw (h .0) (h .1);
-              set = ap (λ (j : ℕ). bitAt m j) (sym (bit-is (v .width) i x (v .from) (h .0))) ∙ g x (rw (eq-eqb x x refl) (omega arith));
+              set = ap (λ (j : ℕ). bitAt m j) (sym (bit-is (v .width) i x (h .0))) ∙ g x (rw (eq-eqb x x refl) (omega arith));
               more = omega arith;
               next = record { list = xs; chain = rw (h .0) (h .2); set = λ y q. g y (omega arith); count = omega arith };
             }
@@ -97,43 +97,52 @@ module _ {w : ℕ} {b : List ℕ} {end c o : ℕ} {m : List ℕ} {before n i : �
     fail : ((s : ℕ) → Head s → ⊥) → ListTold w b end c o m before Unsound
     fail f = list-no (λ s r. f s (head-of s (v .ahead s r)))
 
-    -- an offset beyond the end, an item too many, one that is not marked, one of another class
-    pub list-out : itemBit w end ≤ i → ListTold w b end c o m before Unsound
-    list-out h = fail (λ s y. outside (v .width) i end (v .from) h (y .here .inside))
+    -- an item that is not marked, and an item too many
+    pub list-clear : bitAt m i ≡ 0 → ListTold w b end c o m before Unsound
+    list-clear f = fail (λ s y. omega (arith, y .set))
 
     pub list-over : n ≡ 0 → ListTold w b end c o m before Unsound
     list-over h = fail (λ s y. omega (arith, y .more))
 
-    pub list-clear : (r : ℕ) → r ≡ bitAt m i → r ≡ 0 → ListTold w b end c o m before Unsound
-    list-clear r e f = fail (λ s y. omega (arith, y .set))
-
     -- x is the item's header, and j the bit of the item that it names
     module _ (p x : ℕ) (ep : p ≡ atBit w i) (ex : x ≡ wordAt w b p) where
       read : wordAt w b (itemAt (shape w) (offsetAtBit w i)) ≡ x
-      read = ap (λ (q : ℕ). wordAt w b q) (place (v .width) i (v .from) ∙ sym ep) ∙ sym ex
+      read = ap (λ (q : ℕ). wordAt w b q) (sym ep) ∙ sym ex
 
-      pub list-other : (classAndFlags (shape w) x ≡ freeMark c → ⊥) → ListTold w b end c o m before Unsound
-      list-other f = fail (λ s y. f (rw (← read) (y .here .header)))
+      module _ (j : ℕ) (nb : NextBit w x c j) where
+        list-other : (classAndFlags (shape w) x ≡ freeMark c → ⊥) → ListInv w b end c o m before (n - 1) j
+        list-other f =
+            record {
+              width = v .width;
+              ahead = λ t r. absurd (f (rw (← read) (head-of t (v .ahead t r) .here .header)));
+              back = λ l t r. absurd (omega (arith, nb .far f));
+            }
 
-      pub list-turn : i < itemBit w end → (n ≡ 0 → ⊥) → bitAt m i ≡ 1 → classAndFlags (shape w) x ≡ freeMark c → (j : ℕ) → j ≡ offsetBit w (nextIn (shape w) x) → ListInv w b end c o m before (n - 1) j
-      unfolding Chain times
-      list-turn l e s f j ej =
-          let g : named w b (offsetAtBit w i) ≡ offsetAtBit w j = rw (read, ej) (sym (offset-back (v .width) (nextIn (shape w) x) (next-even (v .width) x))) in
-          record {
-            width = v .width;
-            ahead = λ t r. rw (← g) (head-of t (v .ahead t r) .next);
-            back = λ t r. v .back t (record {
-              list = offsetAtBit w i ∷ r .list;
-              chain = (refl, record { nonzero = λ y. z (offset-zero (v .width) i (v .from) y); even = offset-even (v .width) i; inside = inside (v .width) i end (v .from) l; header = rw read f }, rw g (r .chain));
-              set = λ y q. set r y q (ℕ-discrete y (offsetAtBit w i));
-              count = omega (arith, r .count);
-            });
-            from = rw ej (offset-bit-low (v .width) (nextIn (shape w) x));
-          }
-        where
-          set : {t : ℕ} (r : ListCounted w b end c (offsetAtBit w j) m (n - 1) t) (y : ℕ) → 1 ≤ cond (eqb y (offsetAtBit w i)) 1 0 + times y (r .list) → Dec (y ≡ offsetAtBit w i) → bitAt m (offsetBit w y) ≡ 1
-          set r y q (yes e) = ap (λ (k : ℕ). bitAt m k) (bit-is (v .width) i y (v .from) (sym e)) ∙ s
-          set r y q (no e) = r .set y (omega (arith, rw (ne-eqb y (offsetAtBit w i) e) at q))
+        list-next : i < 2 ^ 32 → atBit w i + w ≤ end → (n ≡ 0 → ⊥) → bitAt m i ≡ 1 → classAndFlags (shape w) x ≡ freeMark c → ListInv w b end c o m before (n - 1) j
+        unfolding Chain times
+        list-next low l e s f =
+            let g : named w b (offsetAtBit w i) ≡ offsetAtBit w j = rw (read, nb .near f) (sym (offset-back (v .width) (nextIn (shape w) x) (next-even (v .width) x))) in
+            record {
+              width = v .width;
+              ahead = λ t r. rw (← g) (head-of t (v .ahead t r) .next);
+              back = λ _ t r. v .back low t (record {
+                list = offsetAtBit w i ∷ r .list;
+                chain = (refl, record { nonzero = λ y. z (offset-zero (v .width) i y); even = offset-even (v .width) i; inside = l; header = rw read f }, rw g (r .chain));
+                set = λ y q. set r y q (ℕ-discrete y (offsetAtBit w i));
+                count = omega (arith, r .count);
+              });
+            }
+          where
+            set : {t : ℕ} (r : ListCounted w b end c (offsetAtBit w j) m (n - 1) t) (y : ℕ) → 1 ≤ cond (eqb y (offsetAtBit w i)) 1 0 + times y (r .list) → Dec (y ≡ offsetAtBit w i) → bitAt m (offsetBit w y) ≡ 1
+            set r y q (yes e) = ap (λ (k : ℕ). bitAt m k) (bit-is (v .width) i y (sym e)) ∙ s
+            set r y q (no e) = r .set y (omega (arith, rw (ne-eqb y (offsetAtBit w i) e) at q))
+
+        pub list-turn : i < 2 ^ 32 → atBit w i + w ≤ end → (n ≡ 0 → ⊥) → bitAt m i ≡ 1 → ListInv w b end c o m before (n - 1) j
+        list-turn low l e s = go (ℕ-discrete (classAndFlags (shape w) x) (freeMark c))
+          where
+            go : Dec (classAndFlags (shape w) x ≡ freeMark c) → ListInv w b end c o m before (n - 1) j
+            go (yes f) = list-next low l e s f
+            go (no f) = list-other f
 
 -- the lists from class c on go to their ends over n marked items
 pub record ListsPassed (w : ℕ) (b : List ℕ) (end c : ℕ) (m : List ℕ) (n : ℕ) : Type 0 where
@@ -214,6 +223,34 @@ module _ {w : ℕ} {b : List ℕ} {end : ℕ} {m : List ℕ} {before n c : ℕ} 
         set k v x q (yes f) = k .set x f
         set k v x q (no f) = v .set x (omega arith)
 
+-- four heads of which no bit is set
+pub four-empty : {w : ℕ} {b : List ℕ} {c x y z u : ℕ} → c + 4 ≤ shape w .classes → x ≡ wordAt w b (headAt (shape w) c) → y ≡ wordAt w b (headAt (shape w) (c + 1)) → z ≡ wordAt w b (headAt (shape w) (c + 2)) → u ≡ wordAt w b (headAt (shape w) (c + 3)) → bitOr (bitOr (bitOr x y) z) u ≡ 0 → FourEmpty w b c
+four-empty {w} {b} {c} {x} {y} {z} {u} h ex ey ez eu e = record { few = h; heads = at }
+  where
+    more : (p q : ℕ) → (p ≤ bitOr p q) × (q ≤ bitOr p q)
+    more p q = (omega (arith, or-add-and p q, and-le-r p q), omega (arith, or-add-and p q, and-le-l p q))
+
+    at : (k : ℕ) → k < 4 → wordAt w b (headAt (shape w) (c + k)) ≡ 0
+    at zero l =
+        let none : c + 0 ≡ c = omega arith in
+        rw none (omega (arith, ex, e, more x y, more (bitOr x y) z, more (bitOr (bitOr x y) z) u))
+    at (suc zero) l = omega (arith, ey, e, more x y, more (bitOr x y) z, more (bitOr (bitOr x y) z) u)
+    at (suc (suc zero)) l = omega (arith, ez, e, more (bitOr x y) z, more (bitOr (bitOr x y) z) u)
+    at (suc (suc (suc zero))) l = omega (arith, eu, e, more (bitOr (bitOr x y) z) u)
+    at (suc (suc (suc (suc k)))) l = absurd (omega arith)
+
+-- four empty lists
+pub lists-skip : {w : ℕ} {b : List ℕ} {end : ℕ} {m : List ℕ} {before n c : ℕ} → FourEmpty w b c → ListsInv w b end m before n c → ListsInv w b end m before n (c + 4)
+lists-skip {w} {b} {end} {m} {before} {n} {c} e i = go 4 (omega arith)
+  where
+    go : (k : ℕ) → k ≤ 4 → ListsInv w b end m before n (c + k)
+    go zero h =
+        let z : c + 0 ≡ c = omega arith in
+        rw z i
+    go (suc k) h =
+        let z : c + suc k ≡ c + k + 1 = omega arith in
+        rw z (lists-turn (go k (omega arith)) (omega (arith, e .few)) 0 (sym (e .heads k (omega arith))) (Count n) n (list-none refl) refl)
+
 -- the bits of items
 unfoldable bitsOf : ℕ → List ℕ → List ℕ
 bitsOf w [] = []
@@ -229,7 +266,7 @@ unfolding bitsOf times
 bits-times {w} wd j [] f = refl
 bits-times {w} wd j (x ∷ xs) f =
     let e = f x (rw (eq-eqb x x refl) (omega arith)) in
-    omega (arith, same-bit wd (offsetBit w x) j x (omega (arith, offset-back wd x (e .0), e .1)) (e .1), bits-times wd j xs (λ y q. f y (omega arith)))
+    omega (arith, same-bit wd (offsetBit w x) j x (sym (offset-back wd x (e .0))), bits-times wd j xs (λ y q. f y (omega arith)))
 
 bits-flat : {w : ℕ} → Width w → (b : List ℕ) (end : ℕ) (ls : List (List ℕ)) → Chains w b end 0 ls → (j : ℕ) → times j (bitsOf w (flat ls)) ≡ times (offsetAtBit w j) (flat ls)
 bits-flat wd b end ls h j = bits-times wd j (flat ls) (λ x q. let it = flat-item wd b x end ls h q in (it .even, it .nonzero))
@@ -253,7 +290,7 @@ module _ {w : ℕ} (wd : Width w) {b : List ℕ} {end : ℕ} {m : List ℕ} {n :
       go : (j : ℕ) → Dec (1 ≤ times (offsetAtBit w j) (flat (r .lists))) → times (offsetAtBit w j) (flat (r .lists)) ≤ times j (k .list)
       go j (no f) = omega arith
       go j (yes f) =
-          let e : offsetBit w (offsetAtBit w j) ≡ j = bit-back wd j (flat-item wd b (offsetAtBit w j) end (r .lists) (r .chains) f .nonzero) in
+          let e : offsetBit w (offsetAtBit w j) ≡ j = bit-is wd j (offsetAtBit w j) refl in
           omega (arith, flat-once wd b (offsetAtBit w j) end (r .lists) (r .chains), k .marks j, rw e at (r .set (offsetAtBit w j) f))
 
       met : (j : ℕ) → times j (bitsOf w (flat (r .lists))) ≤ times j (k .list)

@@ -1,7 +1,7 @@
 pub mod Places
 pub mod Tellings
 pub mod MapLaws
-pub mod Pages
+pub mod PageLaws
 pub mod Walks
 pub mod Chained
 pub mod ItemHeaders

@@ -4,19 +4,18 @@ use mathlib.Core.Path.{_≡_, refl, ap, _∙_}
 use mathlib.Core.Bool.{cond}
 use mathlib.Core.List.{List, [], _∷_, _++_}
 use native.Mathlib.Omega.{arith}
-use native.Mathlib.Decide.{ℕ-discrete}
+use native.Mathlib.Decide.{ℕ-discrete, decLe}
 use lib.ListN.{length, length-set}
 use lib.Dec.{eqb}
 use borrow.Author.Tests.{eq-eqb, ne-eqb}
 use Rattle.words.specs.Width.{Width}
 use Rattle.words.specs.Bits.{bitAt, marked}
-use Rattle.words.proofs.BitLaws.{marked-same, marked-other}
-use Rattle.model.specs.Shape.{shape, itemAt}
+use Rattle.words.proofs.BitLaws.{marked-same, marked-other, beyond-clear}
 use Rattle.model.specs.Sound.{times}
 use Rattle.model.proofs.pictures.Drawn.{times-append}
-use Rattle.sound.specs.Maps.{Adds, Marked, NoMarks, itemBit, atBit, offsetAtBit, mapEnd}
+use Rattle.sound.specs.Maps.{Adds, Marked, NoMarks, offsetAtBit, atBit, mapEnd}
 use Rattle.sound.specs.Told.{Marking}
-use Rattle.sound.proofs.Places.{whole, bits-same, bit-room}
+use Rattle.sound.proofs.Places.{bits-same, bit-room, at-inside}
 
 -- a list without one of x
 unfoldable pub remove : ℕ → List ℕ → List ℕ
@@ -82,8 +81,8 @@ marked-at m i u e j = go (ℕ-discrete j i)
 
 module _ {w : ℕ} (wd : Width w) where
   -- bit i is the mark of the item at offset o
-  pub same-bit : (i j o : ℕ) → itemAt (shape w) o ≡ atBit w i → (o ≡ 0 → ⊥) → _≡_ {A = ℕ} (cond (eqb (offsetAtBit w j) o) 1 0) (cond (eqb j i) 1 0)
-  same-bit i j o e z = go (ℕ-discrete j i)
+  pub same-bit : (i j o : ℕ) → o ≡ offsetAtBit w i → _≡_ {A = ℕ} (cond (eqb (offsetAtBit w j) o) 1 0) (cond (eqb j i) 1 0)
+  same-bit i j o e = go (ℕ-discrete j i)
     where
       go : Dec (j ≡ i) → _≡_ {A = ℕ} (cond (eqb (offsetAtBit w j) o) 1 0) (cond (eqb j i) 1 0)
       go (yes q) = rw (eq-eqb j i q, eq-eqb (offsetAtBit w j) o (omega (arith, ap (λ (x : ℕ). w * x) q))) refl
@@ -97,17 +96,17 @@ module _ {w : ℕ} (wd : Width w) where
   adds-append l k f g = record { at = λ j. omega (arith, f .at j, g .at j, times-append (offsetAtBit w j) l k) }
 
   -- a mark set first
-  pub adds-mark : {m m₁ m′ : List ℕ} {l : List ℕ} (i o : ℕ) → i / 64 < length m → bitAt m i ≡ 0 → m₁ ≡ marked m i → itemAt (shape w) o ≡ atBit w i → (o ≡ 0 → ⊥) → Adds w m₁ m′ l → Adds w m m′ (o ∷ l)
+  pub adds-mark : {m m₁ m′ : List ℕ} {l : List ℕ} (i o : ℕ) → i / 64 < length m → bitAt m i ≡ 0 → m₁ ≡ marked m i → o ≡ offsetAtBit w i → Adds w m₁ m′ l → Adds w m m′ (o ∷ l)
   unfolding times
-  adds-mark {m} {m₁} {m′} {l} i o u c e p z f = record { at = λ j. go j (f .at j) }
+  adds-mark {m} {m₁} {m′} {l} i o u c e p f = record { at = λ j. go j (f .at j) }
     where
       go : (j : ℕ) → bitAt m′ j ≡ bitAt m₁ j + times (offsetAtBit w j) l → bitAt m′ j ≡ bitAt m j + (cond (eqb (offsetAtBit w j) o) 1 0 + times (offsetAtBit w j) l)
-      go j k = rw (same-bit i j o p z) (omega (arith, k, ap (λ (x : List ℕ). bitAt x j) e, marked-at m i u c j))
+      go j k = rw (same-bit i j o p) (omega (arith, k, ap (λ (x : List ℕ). bitAt x j) e, marked-at m i u c j))
 
 -- the number of marks
-pub marked-none : {w : ℕ} {m : List ℕ} → NoMarks w m 0 → Marked m 0
+pub marked-none : {m : List ℕ} → ((j : ℕ) → bitAt m j ≡ 0) → Marked m 0
 unfolding times
-marked-none k = record { list = []; marks = λ j. k .from j (omega arith); count = refl }
+marked-none k = record { list = []; marks = λ j. k j; count = refl }
 
 pub marked-more : {m m₁ : List ℕ} {n : ℕ} (i : ℕ) → i / 64 < length m → bitAt m i ≡ 0 → m₁ ≡ marked m i → Marked m n → Marked m₁ (n + 1)
 unfolding times
@@ -117,20 +116,35 @@ marked-more {m} i u c e k = record { list = i ∷ k .list; marks = λ j. omega (
 pub marking-on : {w : ℕ} {m : List ℕ} {n p q : ℕ} → p ≤ q → Marking w m n p → Marking w m n q
 marking-on l k = record { marked = k .marked; clear = record { from = λ j h. k .clear .from j (omega arith) }; few = omega (arith, k .few) }
 
-pub marking-more : {w : ℕ} → Width w → {m m₁ : List ℕ} {n q : ℕ} (s : ℕ) → q % w ≡ 0 → q < mapEnd w (length m) → w ≤ s → m₁ ≡ marked m (itemBit w q) → Marking w m n q → Marking w m₁ (n + 1) (q + s)
-marking-more {w} wd {m} {m₁} {n} {q} s a u l e k =
+pub marking-more : {w : ℕ} → Width w → {m m₁ : List ℕ} {n : ℕ} (i s : ℕ) → atBit w i < mapEnd w (length m) → w ≤ s → m₁ ≡ marked m i → Marking w m n (atBit w i) → Marking w m₁ (n + 1) (atBit w i + s)
+marking-more {w} wd {m} {m₁} {n} i s u l e k =
     record {
-      marked = marked-more (itemBit w q) (bit-room wd q (length m) u) (k .clear .from (itemBit w q) (omega (arith, whole wd q a))) e (k .marked);
+      marked = marked-more i (bit-room wd i (length m) u) (k .clear .from i (omega arith)) e (k .marked);
       clear = record { from = λ j h. go j h (k .clear .from j (omega arith)) };
-      few = omega (arith, k .few);
+      few = omega (arith, k .few, wd .least);
     }
   where
-    go : (j : ℕ) → q + s ≤ w * j → bitAt m j ≡ 0 → bitAt m₁ j ≡ 0
+    go : (j : ℕ) → atBit w i + s ≤ atBit w j → bitAt m j ≡ 0 → bitAt m₁ j ≡ 0
     go j h z =
         ap (λ (x : List ℕ). bitAt x j) e
-        ∙ marked-at m (itemBit w q) (bit-room wd q (length m) u) (k .clear .from (itemBit w q) (omega (arith, whole wd q a))) j
-        ∙ rw (ne-eqb j (itemBit w q) (λ y. omega (arith, whole wd q a, ap (λ (x : ℕ). w * x) y))) (omega arith)
+        ∙ marked-at m i (bit-room wd i (length m) u) (k .clear .from i (omega arith)) j
+        ∙ rw (ne-eqb j i (λ y. omega (arith, wd .least, ap (λ (x : ℕ). w * x) y))) (omega arith)
 
--- a map that keeps its length is as large as before
-pub map-kept : (w end a b : ℕ) → a ≡ b → end ≤ mapEnd w b → end ≤ mapEnd w a
-map-kept w end a b e h = rw e h
+-- maps with the same bits have the same marks
+pub marking-same : {w : ℕ} {m m′ : List ℕ} {n p : ℕ} → ((j : ℕ) → bitAt m′ j ≡ bitAt m j) → Marking w m n p → Marking w m′ n p
+marking-same e k = record { marked = record { list = k .marked .list; marks = λ j. e j ∙ k .marked .marks j; count = k .marked .count }; clear = record { from = λ j h. e j ∙ k .clear .from j h }; few = k .few }
+
+pub adds-same : {w : ℕ} {m m₁ m′ l : List ℕ} → ((j : ℕ) → bitAt m₁ j ≡ bitAt m j) → Adds w m₁ m′ l → Adds w m m′ l
+adds-same e f = record { at = λ j. omega (arith, e j, f .at j) }
+
+-- there is no mark beyond a map's words
+pub no-mark : (m : List ℕ) (i : ℕ) → 64 * length m ≤ i → bitAt m i ≡ 0
+no-mark m i h = beyond-clear m i (omega arith)
+
+-- an item that is marked is whole within the heap
+pub marked-inside : {w : ℕ} → Width w → {m : List ℕ} {end : ℕ} (i : ℕ) → end % 8 ≡ 0 → NoMarks w m end → bitAt m i ≡ 1 → atBit w i + w ≤ end
+marked-inside {w} wd {m} {end} i e k s = go (decLe end (atBit w i))
+  where
+    go : Dec (end ≤ atBit w i) → atBit w i + w ≤ end
+    go (yes h) = absurd (omega (arith, k .from i h))
+    go (no h) = at-inside wd i end e (omega arith)

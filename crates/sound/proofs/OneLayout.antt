@@ -12,7 +12,7 @@ use Rattle.model.specs.Sound.{AllowedUse, Allowed, AllAllowed}
 use Rattle.model.specs.Promises.{OneLayout}
 use Rattle.model.proofs.blocks.Blocks.{le-ends}
 use Rattle.sound.specs.Onward.{Slots, useKind, Headers, Reads}
-use Rattle.sound.proofs.Pages.{page-class}
+use Rattle.sound.proofs.PageLaws.{page-class}
 use Rattle.sound.proofs.Walks.{use-size, use-kind}
 use Rattle.sound.proofs.Chained.{same-chains}
 use Rattle.sound.proofs.HereFilled.{here-reads, here-chains}

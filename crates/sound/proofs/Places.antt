@@ -1,84 +1,92 @@
 -- The places of items, as positions, offsets and bits of the map: what holds at both word sizes.
-use Prim.Native.Nat.{ℕ, _+_, _*_, _/_, _%_, _≤_, _<_}
+use Prim.Native.Nat.{ℕ, zero, suc, _+_, _*_, _/_, _%_, _^_, _≤_, _<_}
 use mathlib.Core.Path.{_≡_, ap, _∙_}
 use mathlib.Core.List.{List}
 use native.Mathlib.Omega.{arith}
+use native.Mathlib.Decide.{ℕ-discrete}
+use borrow.Author.Tests.{eq-eqb, ne-eqb}
 use Rattle.words.specs.Width.{Width}
 use Rattle.words.specs.Word.{wordAt}
 use Rattle.words.proofs.WidthLaws.{widths}
-use Rattle.model.specs.Shape.{shape, index, itemAt}
-use Rattle.model.specs.Parts.{freeHeader, heldHeader, freeMark, classAndFlags, nextIn}
-use Rattle.sound.specs.Maps.{itemBit, atBit, offsetBit, offsetAtBit, indexBit, mapEnd}
+use Rattle.model.specs.Shape.{shape, index, start, itemSize, offsetOf}
+use Rattle.model.specs.Parts.{freeKind, kindIn, indexTag, freeHeader, heldHeader, freeMark, classAndFlags, nextIn}
+use Rattle.model.specs.inner.Links.{linkOf}
+use Rattle.sound.specs.Maps.{offsetBit, offsetAtBit, atBit, mapEnd, largeMap}
 
 -- a word that was read at a place that was worked out
 pub read-at : (w : ℕ) (b : List ℕ) {p q r : ℕ} → r ≡ wordAt w b p → p ≡ q → r ≡ wordAt w b q
 read-at w b e f = e ∙ ap (λ (x : ℕ). wordAt w b x) f
 
+-- a number made of a low part and of a high one
+sum-four : (q r : ℕ) → q < 2 ^ 58 → r < 64 → (r * 2 ^ 57 < 2 ^ 64) × (q + r * 2 ^ 57 < 2 ^ 64)
+sum-four q r h k = omega arith
+
+sum-eight : (q r : ℕ) → q < 2 ^ 57 → r < 128 → (r * 2 ^ 57 < 2 ^ 64) × (q + r * 2 ^ 57 < 2 ^ 64)
+sum-eight q r h k = omega arith
+
+sum-far : (q r : ℕ) → 1 ≤ r → 2 ^ 32 ≤ q + r * 2 ^ 57
+sum-far q r h = omega arith
+
 module _ {w : ℕ} (wd : Width w) where
-  -- a position that is a whole number of words, and its bit
-  pub whole : (q : ℕ) → q % w ≡ 0 → atBit w (itemBit w q) ≡ q
-  whole q = widths (λ w. q % w ≡ 0 → atBit w (itemBit w q) ≡ q) (omega arith) (omega arith) w wd
+  -- a bit is one offset's, and no other's
+  pub bits-same : (i j : ℕ) → offsetAtBit w i ≡ offsetAtBit w j → i ≡ j
+  bits-same i j = widths (λ w. offsetAtBit w i ≡ offsetAtBit w j → i ≡ j) (omega arith) (omega arith) w wd
 
-  pub bits-same : (i j : ℕ) → atBit w i ≡ atBit w j → i ≡ j
-  bits-same i j = widths (λ w. atBit w i ≡ atBit w j → i ≡ j) (omega arith) (omega arith) w wd
+  pub bits-order : (i j : ℕ) → i ≤ j → atBit w i ≤ atBit w j
+  bits-order i j = widths (λ w. i ≤ j → atBit w i ≤ atBit w j) (omega arith) (omega arith) w wd
 
-  -- what stands below a map's end has its bit in the map
-  pub bit-room : (q n : ℕ) → q < mapEnd w n → itemBit w q / 64 < n
-  bit-room q n = widths (λ w. q < mapEnd w n → itemBit w q / 64 < n) (omega arith) (omega arith) w wd
-
-  pub below-room : (i end n : ℕ) → i < itemBit w end → end ≤ mapEnd w n → i / 64 < n
-  below-room i end n = widths (λ w. i < itemBit w end → end ≤ mapEnd w n → i / 64 < n) (omega arith) (omega arith) w wd
-
-  pub map-end-least : (n : ℕ) → 64 * n ≤ mapEnd w n
-  map-end-least n = widths (λ w. 64 * n ≤ mapEnd w n) (omega arith) (omega arith) w wd
-
-  -- an offset's bit: how code works it out, it is never before the index page's, and back from it
-  pub offset-bit-is : (o p j : ℕ) → p ≡ index (shape w) → j ≡ itemBit w p → (o / w + j ≡ offsetBit w o) × (o / w + j ≤ o / 4 + 7)
-  offset-bit-is o p j ep ej =
-      rw (ej, ep) (widths (λ w. (o / w + indexBit w ≡ offsetBit w o) × (o / w + indexBit w ≤ o / 4 + 7)) (omega arith) (omega arith) w wd)
-
-  pub offset-bit-low : (o : ℕ) → indexBit w ≤ offsetBit w o
-  offset-bit-low o = widths (λ w. indexBit w ≤ offsetBit w o) (omega arith) (omega arith) w wd
+  pub bits-less : (i j : ℕ) → i < j → atBit w i < atBit w j
+  bits-less i j = widths (λ w. i < j → atBit w i < atBit w j) (omega arith) (omega arith) w wd
 
   pub offset-back : (o : ℕ) → o % w ≡ 0 → offsetAtBit w (offsetBit w o) ≡ o
   offset-back o = widths (λ w. o % w ≡ 0 → offsetAtBit w (offsetBit w o) ≡ o) (omega arith) (omega arith) w wd
 
-  pub bit-back : (j : ℕ) → (offsetAtBit w j ≡ 0 → ⊥) → offsetBit w (offsetAtBit w j) ≡ j
-  bit-back j = widths (λ w. (offsetAtBit w j ≡ 0 → ⊥) → offsetBit w (offsetAtBit w j) ≡ j) (omega arith) (omega arith) w wd
+  pub offset-none : offsetAtBit w 0 ≡ 0
+  offset-none = omega arith
 
-  -- offset 0 names no item
-  pub index-offset : offsetAtBit w (indexBit w) ≡ 0
-  index-offset = widths (λ w. offsetAtBit w (indexBit w) ≡ 0) (omega arith) (omega arith) w wd
-
-  -- the item of bit i, from the index page on: its position and its offset
   module _ (i : ℕ) where
-    pub place : indexBit w ≤ i → itemAt (shape w) (offsetAtBit w i) ≡ atBit w i
-    place = widths (λ w. indexBit w ≤ i → itemAt (shape w) (offsetAtBit w i) ≡ atBit w i) (omega arith) (omega arith) w wd
+    pub bit-is : (x : ℕ) → offsetAtBit w i ≡ x → offsetBit w x ≡ i
+    bit-is x = widths (λ w. offsetAtBit w i ≡ x → offsetBit w x ≡ i) (omega arith) (omega arith) w wd
 
-    pub offset-zero : indexBit w ≤ i → offsetAtBit w i ≡ 0 → i ≡ indexBit w
-    offset-zero = widths (λ w. indexBit w ≤ i → offsetAtBit w i ≡ 0 → i ≡ indexBit w) (omega arith) (omega arith) w wd
+    pub offset-zero : offsetAtBit w i ≡ 0 → i ≡ 0
+    offset-zero = widths (λ w. offsetAtBit w i ≡ 0 → i ≡ 0) (omega arith) (omega arith) w wd
 
     pub offset-even : offsetAtBit w i % w ≡ 0
     offset-even = widths (λ w. offsetAtBit w i % w ≡ 0) (omega arith) (omega arith) w wd
 
-    pub bit-is : (x : ℕ) → indexBit w ≤ i → offsetAtBit w i ≡ x → offsetBit w x ≡ i
-    bit-is x = widths (λ w. indexBit w ≤ i → offsetAtBit w i ≡ x → offsetBit w x ≡ i) (omega arith) (omega arith) w wd
+    -- a bit before a map's end is one of the map's
+    pub bit-room : (n : ℕ) → atBit w i < mapEnd w n → i / 64 < n
+    bit-room n = widths (λ w. atBit w i < mapEnd w n → i / 64 < n) (omega arith) (omega arith) w wd
 
-    -- below the end, and beyond it
-    pub at-inside : (end : ℕ) → i < itemBit w end → atBit w i + w ≤ end
-    at-inside end = widths (λ w. i < itemBit w end → atBit w i + w ≤ end) (omega arith) (omega arith) w wd
+    -- an item whose header begins before the end has it whole before the end
+    pub at-inside : (end : ℕ) → end % 8 ≡ 0 → atBit w i < end → atBit w i + w ≤ end
+    at-inside end = widths (λ w. end % 8 ≡ 0 → atBit w i < end → atBit w i + w ≤ end) (omega arith) (omega arith) w wd
 
-    pub inside : (end : ℕ) → indexBit w ≤ i → i < itemBit w end → itemAt (shape w) (offsetAtBit w i) + w ≤ end
-    inside end =
-        widths (λ w. indexBit w ≤ i → i < itemBit w end → itemAt (shape w) (offsetAtBit w i) + w ≤ end) (omega arith) (omega arith) w wd
+    -- the bit of the next item of class c
+    pub bit-step : (c s : ℕ) → s ≡ itemSize (shape w) c / w → atBit w (i + s) ≡ atBit w i + itemSize (shape w) c
+    bit-step c s = widths (λ w. s ≡ itemSize (shape w) c / w → atBit w (i + s) ≡ atBit w i + itemSize (shape w) c) (omega arith) (omega arith) w wd
 
-    pub outside : (end : ℕ) → indexBit w ≤ i → itemBit w end ≤ i → itemAt (shape w) (offsetAtBit w i) + w ≤ end → ⊥
-    outside end =
-        widths (λ w. indexBit w ≤ i → itemBit w end ≤ i → itemAt (shape w) (offsetAtBit w i) + w ≤ end → ⊥) (omega arith) (omega arith) w wd
+  -- the bit behind n items of class c
+  pub bits-stop : (i q n z c : ℕ) → z ≡ itemSize (shape w) c → atBit w i ≡ q → atBit w (i + n * (z / w)) ≡ q + n * z
+  bits-stop i q zero z c e f = omega (arith, f)
+  bits-stop i q (suc n) z c e f = omega (arith, f, bits-stop i q n z c e f, bit-step (i + n * (z / w)) c (z / w) (ap (λ (x : ℕ). x / w) e))
 
-    -- the index page is not beyond the end
-    pub index-below : (end : ℕ) → 96 ≤ end → itemBit w end ≤ i → i ≡ indexBit w → ⊥
-    index-below end = widths (λ w. 96 ≤ end → itemBit w end ≤ i → i ≡ indexBit w → ⊥) (omega arith) (omega arith) w wd
+  -- the bit of the item whose header is at q
+  pub first-bit : (q o i : ℕ) → q % w ≡ 0 → index (shape w) ≤ q → o ≡ offsetOf (shape w) q → i ≡ offsetBit w o → atBit w i ≡ q
+  first-bit q o i =
+      widths (λ w. q % w ≡ 0 → index (shape w) ≤ q → o ≡ offsetOf (shape w) q → i ≡ offsetBit w o → atBit w i ≡ q) (omega arith) (omega arith) w wd
+
+  pub bits-within : (i j : ℕ) → atBit w i ≤ atBit w j → i ≤ j
+  bits-within i j = widths (λ w. atBit w i ≤ atBit w j → i ≤ j) (omega arith) (omega arith) w wd
+
+  pub bit-least : (i : ℕ) → i ≤ atBit w i
+  bit-least i = widths (λ w. i ≤ atBit w i) (omega arith) (omega arith) w wd
+
+  pub map-end-least : (n : ℕ) → 64 * n ≤ mapEnd w n
+  map-end-least n = bit-least (64 * n)
+
+  pub map-end-bound : (n : ℕ) → n ≤ largeMap → mapEnd w n < 2 ^ 32
+  map-end-bound n = widths (λ w. n ≤ largeMap → mapEnd w n < 2 ^ 32) (omega arith) (omega arith) w wd
 
   -- headers: of an item in use and of a free one; what the header of a free item names
   pub not-both : (x c : ℕ) → classAndFlags (shape w) x ≡ freeMark c → x ≡ heldHeader c → ⊥
@@ -98,3 +106,33 @@ module _ {w : ℕ} (wd : Width w) where
 
   pub next-even : (x : ℕ) → nextIn (shape w) x % w ≡ 0
   next-even x = widths (λ w. nextIn (shape w) x % w ≡ 0) (omega arith) (omega arith) w wd
+
+  -- y is the difference of a header x and class c's: what follows of its parts, and of the bit that is made of them
+  pub next-fits : (y : ℕ) → y < 2 ^ 64 → (y % (16 * w) * 2 ^ 57 < 2 ^ 64) × (y / (16 * w) + y % (16 * w) * 2 ^ 57 < 2 ^ 64)
+  next-fits y =
+      widths (λ w. y < 2 ^ 64 → (y % (16 * w) * 2 ^ 57 < 2 ^ 64) × (y / (16 * w) + y % (16 * w) * 2 ^ 57 < 2 ^ 64)) (λ h. sum-four (y / 64) (y % 64) (omega arith) (omega arith)) (λ h. sum-eight (y / 128) (y % 128) (omega arith) (omega arith)) w wd
+
+  module _ (x y c : ℕ) (few : c < shape w .classes) (fits : y < 2 ^ 64) (e : (y + freeMark c) % 2 ^ 64 ≡ x) where
+    near-parts : classAndFlags (shape w) x ≡ freeMark c → (y % (16 * w) ≡ 0) × (y / (16 * w) ≡ offsetBit w (nextIn (shape w) x))
+    near-parts = widths (λ w. c < shape w .classes → classAndFlags (shape w) x ≡ freeMark c → (y % (16 * w) ≡ 0) × (y / (16 * w) ≡ offsetBit w (nextIn (shape w) x))) (omega (arith, fits, e)) (omega (arith, fits, e)) w wd few
+
+    far-part : (classAndFlags (shape w) x ≡ freeMark c → ⊥) → 1 ≤ y % (16 * w)
+    far-part = widths (λ w. c < shape w .classes → (classAndFlags (shape w) x ≡ freeMark c → ⊥) → 1 ≤ y % (16 * w)) (omega (arith, fits, e)) (omega (arith, fits, e)) w wd few
+
+    pub next-near : classAndFlags (shape w) x ≡ freeMark c → y / (16 * w) + y % (16 * w) * 2 ^ 57 ≡ offsetBit w (nextIn (shape w) x)
+    next-near f = let z = near-parts f in omega (arith, z .1, ap (λ (k : ℕ). k * 2 ^ 57) (z .0))
+
+    pub next-far : (classAndFlags (shape w) x ≡ freeMark c → ⊥) → 2 ^ 32 ≤ y / (16 * w) + y % (16 * w) * 2 ^ 57
+    next-far f = sum-far (y / (16 * w)) (y % (16 * w)) (far-part f)
+
+  -- the tag of the index page's block says a page
+  pub index-kind : kindIn (indexTag (shape w)) ≡ freeKind → ⊥
+  index-kind = widths (λ w. kindIn (indexTag (shape w)) ≡ freeKind → ⊥) (omega arith) (omega arith) w wd
+
+  -- the word that names the free block behind the one at prev
+  pub link-room : (prev n : ℕ) → start (shape w) ≤ n → prev + 2 * w ≤ n → linkOf (shape w) prev + w ≤ n
+  link-room prev n h k = go (ℕ-discrete prev 0)
+    where
+      go : Dec (prev ≡ 0) → linkOf (shape w) prev + w ≤ n
+      go (yes e) = rw (eq-eqb prev 0 e) (omega arith)
+      go (no e) = rw (ne-eqb prev 0 e) (omega arith)

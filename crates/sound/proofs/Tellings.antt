@@ -6,7 +6,10 @@ use native.Mathlib.Omega.{arith}
 use lib.Dec.{eqb}
 use borrow.Author.Tests.{eqb-true, eq-eqb}
 use Rattle.sound.specs.Tells.{Tells}
-use Rattle.sound.specs.declared.Marks.the-variants.{Unsound, Count}
+use Rattle.sound.specs.declared.map.Marks.the-variants.{Unsound, Count}
+use Rattle.sound.specs.declared.blocks.Stand.{Stand}
+use Rattle.sound.specs.declared.blocks.Walk.the-variants.{Unsound as Wrong, Beyond, On}
+use Rattle.sound.specs.declared.Filling.the-variants.{Told, Beyond as Further}
 
 pub clash : (r : Bool) → r ≡ false → r ≡ true → ⊥
 clash r e f = let z : _≡_ {A = ℕ} 0 1 = ap (λ (x : Bool). cond x 1 0) (sym e ∙ f) in omega arith
@@ -34,3 +37,29 @@ count-no {n} e = let z : _≡_ {A = ℕ} 0 1 = cc in omega arith
 
 pub count-same : {n k : ℕ} → Count n ≡ Count k → n ≡ k
 count-same e = cc
+
+-- the answers of a walk are different, and say where it stands
+pub wrong-beyond : {s : Stand} → Wrong ≡ Beyond s → ⊥
+wrong-beyond {s} e = let z : _≡_ {A = ℕ} 0 1 = cc in omega arith
+
+pub wrong-on : {s : Stand} → Wrong ≡ On s → ⊥
+wrong-on {s} e = let z : _≡_ {A = ℕ} 0 1 = cc in omega arith
+
+pub on-beyond : {s x : Stand} → On s ≡ Beyond x → ⊥
+on-beyond {s} {x} e = let z : _≡_ {A = ℕ} 0 1 = cc in omega arith
+
+pub beyond-same : {s x : Stand} → Beyond s ≡ Beyond x → s ≡ x
+beyond-same e = cc
+
+pub on-same : {s x : Stand} → On s ≡ On x → s ≡ x
+on-same e = cc
+
+-- and so are the answers as far as a map goes
+pub told-same : {x y : Bool} → Told x ≡ Told y → x ≡ y
+told-same e = cc
+
+pub told-beyond : {x : Bool} {s : Stand} → Told x ≡ Further s → ⊥
+told-beyond {x} {s} e = let z : _≡_ {A = ℕ} 0 1 = cc in omega arith
+
+pub further-same : {s x : Stand} → Further s ≡ Further x → s ≡ x
+further-same e = cc

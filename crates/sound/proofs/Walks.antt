@@ -1,26 +1,37 @@
 -- Laws of a walk over the blocks: what the tests at a tag tell of a run, and a run made longer by the block before it.
 use Prim.Native.Nat.{ℕ, _+_, _-_, _%_, _≤_, _<_}
-use mathlib.Core.Path.{_≡_, refl, sym, _∙_}
+use mathlib.Core.Path.{_≡_, refl, sym, ap, subst, _∙_}
 use mathlib.Core.Bool.{Bool, true, false}
 use mathlib.Core.List.{List, [], _∷_}
 use native.Mathlib.Omega.{arith}
 use lib.ListN.{length}
+use lib.Dec.{eqb}
+use borrow.Author.Tests.{eq-eqb, ne-eqb}
 use Rattle.words.specs.Width.{Width}
 use Rattle.words.specs.Word.{wordAt}
-use Rattle.model.specs.Shape.{shape, start, leastFree}
-use Rattle.model.specs.Parts.{freeKind, sizeIn, kindIn, tagOf, firstFreeAt, farTagAt, nextAt, previousAt}
+use Rattle.words.specs.Bits.{bitAt}
+use Rattle.words.proofs.BitLaws.{beyond-clear}
+use Rattle.words.proofs.WidthLaws.{widths}
+use Rattle.model.specs.Shape.{shape, start, leastFree, endOf}
+use Rattle.model.specs.Parts.{freeKind, sizeIn, kindIn, tagOf, firstFreeAt, farTagAt, nextAt, previousAt, indexTag}
 use Rattle.model.specs.Layout.{Use, variable, page, Block, free, used, useSize, sizeOf, ends, firstFree}
 use Rattle.model.specs.Sound.{Allowed, AllowedUse, AllAllowed, Apart}
 use Rattle.model.specs.inner.Walks.{flag}
+use Rattle.model.specs.inner.Links.{linkOf}
 use Rattle.model.proofs.blocks.Blocks.{le-ends}
 use Rattle.model.proofs.Sizes.{start-eight}
 use Rattle.model.proofs.walks.Standing.{sizes}
 use Rattle.sound.specs.Onward.{useKind, UseAt, Reads, Onward, freeIn, freeItems}
-use Rattle.sound.specs.Maps.{NoMarks, mapEnd}
-use Rattle.sound.specs.Told.{Sizes, Marking, UseMarked, BlocksMarked, BlocksTold}
-use Rattle.sound.specs.declared.Marks.the-variants.{Unsound, Count}
-use Rattle.sound.proofs.Tellings.{no-count, count-no, count-same}
-use Rattle.sound.proofs.MapLaws.{adds-none, adds-append, marked-none, marking-on}
+use Rattle.sound.specs.Maps.{mapEnd, largeMap}
+use Rattle.sound.specs.Told.{Fixed, Sizes, MapSize, Marking, UseMarked, BlocksMarked, touches, expected, Stood, StoodAt, WalkTold, FillTold}
+use Rattle.sound.specs.Tells.{Tells}
+use Rattle.sound.specs.Lists.{Filled}
+use Rattle.sound.specs.declared.blocks.Stand.{Stand}
+use Rattle.sound.specs.declared.blocks.Walk.the-variants.{Unsound, Beyond, On}
+use Rattle.sound.specs.declared.Filling.the-variants.{Told, Beyond as Further}
+use Rattle.sound.proofs.Tellings.{wrong-beyond, wrong-on, on-beyond, beyond-same, on-same, told-same, told-beyond, further-same}
+use Rattle.sound.proofs.Places.{index-kind}
+use Rattle.sound.proofs.MapLaws.{adds-none, adds-append, adds-same, marked-none, marking-on, marking-same}
 
 pub use-size : {w : ℕ} → Width w → (u : Use) → AllowedUse (shape w) u → (leastFree (shape w) ≤ useSize (shape w) u) × (useSize (shape w) u % 8 ≡ 0)
 unfolding Allowed sizeOf
@@ -126,75 +137,116 @@ module _ {w : ℕ} (wd : Width w) {b : List ℕ} {end p prev : ℕ} {touching : 
         adds = rw (a .size) (adds-append wd (freeIn w p (a .use-is)) (freeItems w (p + s) (r .rest)) (u .adds) (walk .adds));
       }
 
--- the walk stands at p: what is ahead, what it makes of the whole, and the marks so far
-pub record BlocksInv (w : ℕ) (b : List ℕ) (end : ℕ) (m₀ m : List ℕ) (n p prev : ℕ) (touching : Bool) (link : ℕ) : Type 0 where
-  pub width : Width w
-  pub ahead : Onward w b end (start (shape w)) 0 false (wordAt w b (firstFreeAt (shape w))) → Onward w b end p prev touching link
-  pub back : (m′ : List ℕ) → BlocksMarked w b end p prev touching link m m′ → BlocksMarked w b end (start (shape w)) 0 false (wordAt w b (firstFreeAt (shape w))) m₀ m′
-  pub low : start (shape w) ≤ p
-  pub inside : p ≤ end
-  pub eight : p % 8 ≡ 0
-  pub marking : Marking w m n p
-  pub map : end ≤ mapEnd w (length m)
-  pub size : length m ≡ length m₀
+-- the tag of a block is the tag right before the next
+touches-is : (w : ℕ) (b : List ℕ) (p s t : ℕ) → wordAt w b (farTagAt (shape w) p s) ≡ t → touches w b (p + s) ≡ eqb (kindIn t) freeKind
+touches-is w b p s t e = ap (λ (x : ℕ). eqb (kindIn x) freeKind) e
 
-pub blocks-start : {w : ℕ} {b m : List ℕ} {end : ℕ} (link p : ℕ) → link ≡ wordAt w b (firstFreeAt (shape w)) → Sizes w b (length m) end → NoMarks w m 0 → p ≡ start (shape w) → BlocksInv w b end m m 0 p 0 false link
-blocks-start {w} link p e z k f =
-    rw (e, f) (record {
-      width = z .width;
-      ahead = λ r. r;
-      back = λ m′ r. r;
+-- answers of a walk
+pub walk-wrong : {w : ℕ} {b : List ℕ} {end : ℕ} {P : Stand → Type 0} {m′ : List ℕ} → (Onward w b end (start (shape w)) 0 false (wordAt w b (firstFreeAt (shape w))) → ⊥) → WalkTold w b end P Unsound m′
+walk-wrong f = record { is-no = λ _. f; is-beyond = λ s y. absurd (wrong-beyond y); is-on = λ s y. absurd (wrong-on y) }
+
+pub walk-beyond : {w : ℕ} {b : List ℕ} {end : ℕ} {P : Stand → Type 0} {m′ : List ℕ} (s : Stand) → StoodAt w b end s m′ → mapEnd w (length m′) < end → WalkTold w b end P (Beyond s) m′
+walk-beyond {w} {b} {end} {P} {m′} s v l = record { is-no = λ y. absurd (wrong-beyond (sym y)); is-beyond = λ x y. subst (λ (z : Stand). StoodAt w b end z m′ × (mapEnd w (length m′) < end)) (beyond-same y) (v, l); is-on = λ x y. absurd (on-beyond (sym y)) }
+
+pub walk-on : {w : ℕ} {b : List ℕ} {end : ℕ} {P : Stand → Type 0} {m′ : List ℕ} (s : Stand) → StoodAt w b end s m′ → P s → WalkTold w b end P (On s) m′
+walk-on {w} {b} {end} {P} {m′} s v l = record { is-no = λ y. absurd (wrong-on (sym y)); is-beyond = λ x y. absurd (on-beyond y); is-on = λ x y. subst (λ (z : Stand). StoodAt w b end z m′ × P z) (on-same y) (v, l) }
+
+pub walk-to : {w : ℕ} {b : List ℕ} {end : ℕ} {P : Stand → Type 0} {m′ : List ℕ} {p left prev n : ℕ} (s : Stand) → (s .at .0 ≡ p) × (s .left ≡ left) × (s .prev .0 ≡ prev) × (s .marks ≡ n) → Stood w b end p left prev n m′ → P s → WalkTold w b end P (On s) m′
+walk-to s e v = walk-on s (rw (e .0, e .1, e .2, e .3) v)
+
+-- before the first block
+pub stood-start : {w : ℕ} {b m : List ℕ} {end : ℕ} → Sizes w b end → Fixed w b end → MapSize (length m) → ((j : ℕ) → bitAt m j ≡ 0) → Stood w b end (start (shape w)) (end - start (shape w)) 0 0 m
+stood-start {w} {b} {m} {end} z f k e =
+    record {
+      sizes = z;
+      map = k;
+      ahead = λ r. rw alone r;
+      back = λ m′ r. unmarked m′ (rw alone at r);
       low = omega arith;
-      inside = omega (arith, z .low);
+      stops = omega (arith, z .low);
       eight = start-eight (z .width);
-      marking = record { marked = marked-none k; clear = record { from = λ j h. k .from j (omega arith) }; few = omega arith };
-      map = z .map;
-      size = refl;
-    })
+      before = omega arith;
+      marking = record { marked = marked-none e; clear = record { from = λ j _. e j }; few = omega arith };
+    }
+  where
+    alone : touches w b (start (shape w)) ≡ false
+    alone = ap (λ (x : ℕ). eqb (kindIn x) freeKind) (f .high-tag) ∙ ne-eqb (kindIn (indexTag (shape w))) freeKind (index-kind (z .width))
 
-module _ {w : ℕ} {b : List ℕ} {end : ℕ} {m₀ m : List ℕ} {n p prev : ℕ} {touching : Bool} {link : ℕ} (i : BlocksInv w b end m₀ m n p prev touching link) where
+    unmarked : (m′ : List ℕ) → BlocksMarked w b end (start (shape w)) 0 false (wordAt w b (firstFreeAt (shape w))) m m′ → BlocksMarked w b end (start (shape w)) 0 false (wordAt w b (firstFreeAt (shape w))) [] m′
+    unmarked m′ r = record { onward = r .onward; adds = adds-same (λ j. e j ∙ sym (beyond-clear [] j (omega arith))) (r .adds) }
+
+-- with another map of the same bits
+pub stood-same : {w : ℕ} {b m m′ : List ℕ} {end p left prev n : ℕ} → ((j : ℕ) → bitAt m′ j ≡ bitAt m j) → MapSize (length m′) → Stood w b end p left prev n m → Stood w b end p left prev n m′
+stood-same e k v = record { sizes = v .sizes; map = k; ahead = v .ahead; back = λ m″ r. v .back m″ (record { onward = r .onward; adds = adds-same e (r .adds) }); low = v .low; stops = v .stops; eight = v .eight; before = v .before; marking = marking-same e (v .marking) }
+
+module _ {w : ℕ} {b m : List ℕ} {end p left prev n : ℕ} (v : Stood w b end p left prev n m) where
+  wd : Width w
+  wd = v .sizes .width
+
   -- at the end
-  pub blocks-yes : end ≤ p → link ≡ 0 → BlocksTold w b end m₀ (Count n) m
-  blocks-yes h e = record { is-no = λ y. absurd (count-no y); is-yes = λ k y. rw (← count-same y) (i .back m (stop-out (i .width) m (omega (arith, i .inside)) e), i .marking .marked) }
+  pub stood-end : left ≡ 0 → expected w b prev ≡ 0 → BlocksMarked w b end (start (shape w)) 0 false (wordAt w b (firstFreeAt (shape w))) [] m
+  stood-end h e = v .back m (stop-out wd m (omega (arith, v .stops)) e)
 
-  pub blocks-open : (m′ : List ℕ) → end ≤ p → (link ≡ 0 → ⊥) → BlocksTold w b end m₀ Unsound m′
-  blocks-open m′ h e = record { is-no = λ _ r. e (stop-in (i .width) (omega (arith, i .inside)) (i .ahead r)); is-yes = λ n y. absurd (no-count y) }
+  pub stood-open : left ≡ 0 → (expected w b prev ≡ 0 → ⊥) → Onward w b end (start (shape w)) 0 false (wordAt w b (firstFreeAt (shape w))) → ⊥
+  stood-open h e r = e (stop-in wd (omega (arith, v .stops)) (v .ahead r))
 
-  module _ (h : p < end) (t s : ℕ) (et : t ≡ wordAt w b p) (es : s ≡ sizeIn t) where
+  module _ (h : 0 < left) (t s : ℕ) (et : t ≡ wordAt w b p) (es : s ≡ sizeIn t) where
+    here : Onward w b end (start (shape w)) 0 false (wordAt w b (firstFreeAt (shape w))) → BlockPassed w b end p prev (touches w b p) (expected w b prev) t s
+    here r = passed wd t s et es (omega (arith, v .stops)) (v .ahead r)
+
     -- a test that failed
-    pub blocks-no : (m′ : List ℕ) → (BlockPassed w b end p prev touching link t s → ⊥) → BlocksTold w b end m₀ Unsound m′
-    blocks-no m′ f = record { is-no = λ _ r. f (passed (i .width) t s et es h (i .ahead r)); is-yes = λ n y. absurd (no-count y) }
+    pub stood-no : {P : Stand → Type 0} {m′ : List ℕ} → (BlockPassed w b end p prev (touches w b p) (expected w b prev) t s → ⊥) → WalkTold w b end P Unsound m′
+    stood-no f = walk-wrong (λ r. f (here r))
 
-    module _ (big : leastFree (shape w) ≤ s) (within : p + s ≤ end) (tag : wordAt w b (farTagAt (shape w) p s) ≡ t) where
-      pub blocks-free : kindIn t ≡ freeKind → touching ≡ false → link ≡ p → wordAt w b (previousAt (shape w) p s) ≡ prev → (x : ℕ) → x ≡ wordAt w b (nextAt (shape w) p) → BlocksInv w b end m₀ m n (p + s) p true x
-      blocks-free a alone linked prior x ex =
-          rw ex (record {
-            width = i .width;
-            ahead = λ r. passed (i .width) t s et es h (i .ahead r) .when-free a .3;
-            back = λ m′ walk. i .back m′ (free-back (i .width) t s et es a big tag alone linked prior walk);
-            low = omega (arith, i .low);
-            inside = within;
-            eight = omega (arith, i .eight);
-            marking = marking-on (omega arith) (i .marking);
-            map = i .map;
-            size = i .size;
-          })
+    module _ (within : s ≤ left) (tag : wordAt w b (farTagAt (shape w) p s) ≡ t) where
+      pub stood-free : kindIn t ≡ freeKind → leastFree (shape w) ≤ s → expected w b prev ≡ p → touches w b p ≡ false → wordAt w b (previousAt (shape w) p s) ≡ prev → Stood w b end (p + s) (left - s) p n m
+      stood-free a big linked alone prior =
+          let f : touches w b (p + s) ≡ true = touches-is w b p s t tag ∙ eq-eqb (kindIn t) freeKind a in
+          let g : linkOf (shape w) p ≡ nextAt (shape w) p = rw (ne-eqb p 0 (λ z. omega (arith, v .low))) refl in
+          record {
+            sizes = v .sizes;
+            map = v .map;
+            ahead = λ r. rw (f, g) (here r .when-free a .3);
+            back = λ m′ walk. v .back m′ (free-back wd t s et es a big tag alone linked prior (rw (f, g) at walk));
+            low = omega (arith, v .low);
+            stops = omega (arith, v .stops);
+            eight = omega (arith, v .eight);
+            before = omega arith;
+            marking = marking-on (omega arith) (v .marking);
+          }
 
     -- a block in use of this kind: it is none, or it is marked
     module _ (kind : ℕ) (ek : kindIn t ≡ kind) (in-use : kind ≡ freeKind → ⊥) where
-      pub blocks-wrong : (UseAt w b p s kind → ⊥) → (m′ : List ℕ) → BlocksTold w b end m₀ Unsound m′
-      blocks-wrong f m′ = blocks-no m′ (λ k. f (rw ek at (k .when-used (λ e. in-use (sym ek ∙ e)) .0)))
+      pub stood-wrong : {P : Stand → Type 0} {m′ : List ℕ} → (UseAt w b p s kind → ⊥) → WalkTold w b end P Unsound m′
+      stood-wrong f = stood-no (λ k. f (rw ek at (k .when-used (λ e. in-use (sym ek ∙ e)) .0)))
 
-      pub blocks-used : p + s ≤ end → wordAt w b (farTagAt (shape w) p s) ≡ t → (m₁ : List ℕ) (r : ℕ) → length m₁ ≡ length m → UseMarked w b p s kind m m₁ → Marking w m₁ r (p + s) → BlocksInv w b end m₀ m₁ r (p + s) prev false link
-      blocks-used within tag m₁ r el u k =
+      pub stood-used : s ≤ left → wordAt w b (farTagAt (shape w) p s) ≡ t → (m₁ : List ℕ) (r : ℕ) → length m₁ ≡ length m → UseMarked w b p s kind m m₁ → Marking w m₁ r (p + s) → Stood w b end (p + s) (left - s) prev r m₁
+      stood-used within tag m₁ r el u k =
+          let f : touches w b (p + s) ≡ false = touches-is w b p s t tag ∙ ne-eqb (kindIn t) freeKind (λ e. in-use (sym ek ∙ e)) in
           record {
-            width = i .width;
-            ahead = λ v. passed (i .width) t s et es h (i .ahead v) .when-used (λ e. in-use (sym ek ∙ e)) .1;
-            back = λ m′ walk. i .back m′ (used-back (i .width) t s et es tag (rw ek u) walk);
-            low = omega (arith, i .low);
-            inside = within;
-            eight = omega (arith, i .eight);
+            sizes = v .sizes;
+            map = rw el (v .map);
+            ahead = λ z. rw f (here z .when-used (λ e. in-use (sym ek ∙ e)) .1);
+            back = λ m′ walk. v .back m′ (used-back wd t s et es tag (rw ek u) (rw f at walk));
+            low = omega (arith, v .low);
+            stops = omega (arith, v .stops);
+            eight = omega (arith, v .eight);
+            before = omega (arith, v .before);
             marking = k;
-            map = rw el (i .map);
-            size = el ∙ i .size;
           }
+
+-- a walk that has come to s, with a map as long as at first
+pub record Stands (w : ℕ) (b : List ℕ) (end : ℕ) (m₀ m : List ℕ) (s : Stand) : Type 0 where
+  pub stood : StoodAt w b end s m
+  pub size : length m ≡ length m₀
+
+-- answers as far as a map goes
+pub fill-told : {w : ℕ} {b : List ℕ} {x : Bool} {m′ : List ℕ} → Tells x (Filled w b (endOf (length b))) → FillTold w b (Told x) m′
+fill-told {w} {b} t = record { is-told = λ y e. subst (λ (z : Bool). Tells z (Filled w b (endOf (length b)))) (told-same e) t; is-beyond = λ s e. absurd (told-beyond e) }
+
+pub fill-beyond : {w : ℕ} {b m′ : List ℕ} (s : Stand) → StoodAt w b (endOf (length b)) s m′ → mapEnd w (length m′) < endOf (length b) → FillTold w b (Further s) m′
+fill-beyond {w} {b} {m′} s v l = record { is-told = λ y e. absurd (told-beyond (sym e)); is-beyond = λ x e. subst (λ (z : Stand). StoodAt w b (endOf (length b)) z m′ × (mapEnd w (length m′) < endOf (length b))) (further-same e) (v, l) }
+
+-- a large map is enough for every heap
+pub large-enough : {w : ℕ} → Width w → (b : List ℕ) (n : ℕ) → n ≡ largeMap → length b ≤ shape w .most → mapEnd w n < endOf (length b) → ⊥
+large-enough wd b n e = rw e (widths (λ w. length b ≤ shape w .most → mapEnd w largeMap < endOf (length b) → ⊥) (omega arith) (omega arith) _ wd)

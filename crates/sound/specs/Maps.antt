@@ -1,28 +1,21 @@
--- The map of free items: it has a bit for each word of the heap, the mark of the item whose header stands there.
+-- The map of free items: it has a bit for each word from the index page on, the mark of the item whose header stands there.
 use Prim.Native.Nat.{ℕ, _+_, _*_, _/_, _≤_}
 use mathlib.Core.Path.{_≡_}
 use mathlib.Core.List.{List}
 use lib.ListN.{length}
 use Rattle.words.specs.Bits.{bitAt}
-use Rattle.model.specs.Shape.{shape, index, offsetOf, itemAt}
+use Rattle.model.specs.Shape.{shape, itemAt}
 use Rattle.model.specs.Sound.{times}
 
--- the bit of the item whose header is at position p, and the position that bit j stands for
-abbrev pub itemBit : ℕ → ℕ → ℕ
-itemBit w p = p / w
-
-abbrev pub atBit : ℕ → ℕ → ℕ
-atBit w j = w * j
-
--- the same of the item with offset o: its bit; the offset that bit j stands for; and the bit of offset 0, which names no item
+-- the bit of the item with offset o; the offset that bit j stands for, and the position of the item there; bit 0 is that of offset 0, which names no item
 abbrev pub offsetBit : ℕ → ℕ → ℕ
-offsetBit w o = itemBit w (itemAt (shape w) o)
+offsetBit w o = o / w
 
 abbrev pub offsetAtBit : ℕ → ℕ → ℕ
-offsetAtBit w j = offsetOf (shape w) (atBit w j)
+offsetAtBit w j = w * j
 
-abbrev pub indexBit : ℕ → ℕ
-indexBit w = itemBit w (index (shape w))
+abbrev pub atBit : ℕ → ℕ → ℕ
+atBit w j = itemAt (shape w) (offsetAtBit w j)
 
 -- where the words end that a map of n words of 64 bits has bits for; and the words of a small, a middle and a large map
 abbrev pub mapEnd : ℕ → ℕ → ℕ

@@ -1,9 +1,10 @@
 -- Laws of maps of bits.
-use Prim.Native.Nat.{ℕ, zero, suc, _+_, _*_, _/_, _%_, _^_, _<_}
+use Prim.Native.Nat.{ℕ, zero, suc, _+_, _*_, _/_, _%_, _^_, _≤_, _<_}
 use mathlib.Core.Path.{_≡_, refl, sym, ap, _∙_}
-use mathlib.Core.List.{List}
+use mathlib.Core.List.{List, [], _∷_}
 use native.Mathlib.Omega.{arith}
-use lib.ListN.{length, getD, set, replicate}
+use native.Mathlib.Decide.{ℕ-discrete, decLe}
+use lib.ListN.{length, length-set, getD, set, replicate}
 use lib.Seq.{getD-set-same, getD-set-other}
 use lib.Pow.{shr-shr, shl-exact}
 use lib.Dec.{eqb}
@@ -79,15 +80,52 @@ pub mark-fits : (m : List ℕ) (i : ℕ) → bitAt m i ≡ 0 → getD m (i / 64)
 unfolding bitAt
 mark-fits m i e f = add-fits (i % 64) 64 _ (bits-is (i % 64) _ ∙ e) (omega arith) f
 
--- every bit of a map of zeros is clear
-pub zeros-clear : (n i : ℕ) → bitAt (replicate n 0) i ≡ 0
+-- a word that is 0 has no bit
+zero-clear : (m : List ℕ) (i : ℕ) → _≡_ {A = ℕ} (getD m (i / 64) 0) 0 → bitAt m i ≡ 0
 unfolding bitAt
-zeros-clear n i = rw (zero-at n (i / 64)) (zero-div (i % 64))
+zero-clear m i e = rw (e, Nat.zero-div) refl
+
+-- every bit of a map of zeros is clear, and every one beyond a map's words
+pub zeros-clear : (n i : ℕ) → bitAt (replicate n 0) i ≡ 0
+zeros-clear n i = zero-clear (replicate n 0) i (zero-at n (i / 64))
   where
     zero-at : (n k : ℕ) → _≡_ {A = ℕ} (getD (replicate n 0) k 0) 0
     zero-at zero k = refl
     zero-at (suc n) zero = refl
     zero-at (suc n) (suc k) = zero-at n k
 
-    zero-div : (b : ℕ) → 0 / 2 ^ b % 2 ≡ 0
-    zero-div b = rw Nat.zero-div
+pub beyond-clear : (m : List ℕ) (i : ℕ) → length m ≤ i / 64 → bitAt m i ≡ 0
+beyond-clear m i h = zero-clear m i (none-at m (i / 64) h)
+  where
+    none-at : (m : List ℕ) (k : ℕ) → length m ≤ k → _≡_ {A = ℕ} (getD m k 0) 0
+    none-at [] k h = refl
+    none-at (x ∷ xs) zero h = absurd (omega arith)
+    none-at (x ∷ xs) (suc k) h = none-at xs k (omega arith)
+
+-- the words of one map are stored in another, which was clear: the first k of them are
+pub record Spreading (from to₀ to : List ℕ) (k : ℕ) : Type 0 where
+  pub size : length to ≡ length to₀
+  pub room : length from ≤ length to
+  pub done : (j : ℕ) → j / 64 < k → bitAt to j ≡ bitAt from j
+  pub ahead : (j : ℕ) → k ≤ j / 64 → bitAt to j ≡ 0
+
+pub spread-turn : {from to₀ to : List ℕ} {k : ℕ} → k < length from → Spreading from to₀ to k → Spreading from to₀ (set to k (getD from k 0)) (k + 1)
+unfolding bitAt
+spread-turn {from} {to₀} {to} {k} h i =
+    record {
+      size = length-set to k (getD from k 0) ∙ i .size;
+      room = rw (length-set to k (getD from k 0)) (i .room);
+      done = λ j l. at j (ℕ-discrete (j / 64) k) l;
+      ahead = λ j l. ap (λ (x : ℕ). bitOf x (j % 64)) (getD-set-other to k (j / 64) (getD from k 0) 0 (λ e. omega arith)) ∙ i .ahead j (omega arith);
+    }
+  where
+    at : (j : ℕ) → Dec (j / 64 ≡ k) → j / 64 < k + 1 → bitAt (set to k (getD from k 0)) j ≡ bitAt from j
+    at j (yes e) l = rw (e, getD-set-same to k (getD from k 0) 0 (omega (arith, i .room))) refl
+    at j (no e) l = ap (λ (x : ℕ). bitOf x (j % 64)) (getD-set-other to k (j / 64) (getD from k 0) 0 e) ∙ i .done j (omega arith)
+
+pub spread-done : {from to₀ to : List ℕ} {k : ℕ} → length from ≤ k → Spreading from to₀ to k → (j : ℕ) → bitAt to j ≡ bitAt from j
+spread-done {from} {to₀} {to} {k} h i j = go (decLe k (j / 64))
+  where
+    go : Dec (k ≤ j / 64) → bitAt to j ≡ bitAt from j
+    go (yes l) = i .ahead j l ∙ sym (beyond-clear from j (omega arith))
+    go (no l) = i .done j (omega arith)

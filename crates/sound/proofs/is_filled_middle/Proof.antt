@@ -1,3 +1,4 @@
+use Rattle.sound.proofs.Walks.{stood-same}
 use Rattle.words.proofs.BitLaws.{zeros-clear}
 use Rattle.sound.specs.Maps.{middleMap}
 use native.Mathlib.Omega.{arith}
@@ -5,19 +6,47 @@ use borrow.Author.Needs.{needs}
 use Rattle.sound.proofs.is_filled_middle.Statement.{statement}
 use Rattle.sound.proofs.is_filled_middle.Tie as tie
 
-slice-aggregate-is-filled : tie.Need-slice-aggregate-is-filled
-slice-aggregate-is-filled c = search needs
+slice-aggregate-spread : tie.Need-slice-aggregate-spread
+slice-aggregate-spread c = search needs
 
-is-filled-requires : tie.Need-is-filled-requires
-is-filled-requires c κs = (record { width = omega arith; low = omega arith; inside = omega arith; eight = omega arith; map = omega arith }, record { from = λ j _. zeros-clear middleMap j })
+spread-requires : tie.Need-spread-requires
+spread-requires c κs = (omega (arith, c .before .before .before .pre .1), zeros-clear middleMap)
+
+slice-aggregate-fill : tie.Need-slice-aggregate-fill
+slice-aggregate-fill c = search needs
+
+fill-requires : tie.Need-fill-requires
+fill-requires c κs = stood-same (c .before .before .spread .ensures) (record { some = omega arith; few = omega arith }) (c .before .before .before .before .before .before .pre .0)
+
+enum-known-b : tie.Need-enum-known-b
+enum-known-b c = search needs
+
+enum-known-s : tie.Need-enum-known-s
+enum-known-s c = search needs
+
+slice-aggregate-is-filled-large : tie.Need-slice-aggregate-is-filled-large
+slice-aggregate-is-filled-large c = search needs
+
+is-filled-large-requires : tie.Need-is-filled-large-requires
+is-filled-large-requires c κs = (c .before .before .before .before .before .fill .ensures .is-beyond _ (c .before .before .s .given .1) .0, omega arith, c .before .before .before .before .before .before .before .before .before .before .before .before .pre .2)
 
 returns : tie.Need-returns
-returns c = search needs
+returns c = c .before .before .before .before .fill .ensures .is-told _ (c .before .b .given .1)
+
+returns-2 : tie.Need-returns-2
+returns-2 c = search needs
 
 pub is-filled-middle-spec : {M : Type 1} → statement M
 is-filled-middle-spec =
     tie.close
     (tie.spec
-    slice-aggregate-is-filled
-    is-filled-requires
-    returns)
+    slice-aggregate-spread
+    spread-requires
+    slice-aggregate-fill
+    fill-requires
+    enum-known-b
+    enum-known-s
+    slice-aggregate-is-filled-large
+    is-filled-large-requires
+    returns
+    returns-2)

@@ -1,9 +1,10 @@
-use Rattle.model.proofs.Sizes.{end-room, most-bound}
-use native.Mathlib.Omega.{arith}
 use Rattle.sound.proofs.HereFilled.{sound-fixed, sound-filled}
 use Rattle.sound.proofs.FilledHere.{sound-of}
 use Rattle.sound.proofs.Tellings.{clash, tells-no, tells-so}
+use Rattle.sound.specs.Told.{Fixed}
+use Rattle.model.specs.Shape.{endOf}
 use borrow.Author.Tests.{not-true, not-false}
+use lib.ListN.{length}
 use borrow.Author.Needs.{needs}
 use Rattle.sound.proofs.is_sound.Statement.{statement}
 use Rattle.sound.proofs.is_sound.Tie as tie
@@ -17,29 +18,14 @@ is-fixed-requires c κs = search needs
 returns : tie.Need-returns
 returns c = tells-no _ (λ s. clash _ (not-true _ (c .if1 .taken)) (c .before .is-fixed .ensures .is-yes (rw (c .before .before .end-of .ensures) (sound-fixed (c .before .before .before .before .pre .0) _ s))))
 
-map-end-requires : tie.Need-map-end-requires
-map-end-requires c κs = search needs
+is-filled-requires : tie.Need-is-filled-requires
+is-filled-requires c κs = (c .before .before .before .before .pre .0, c .before .before .before .before .pre .1, c .before .before .end-of .ensures, c .before .is-fixed .ensures .yes-is (not-false _ (c .if1 .left)))
 
-is-filled-small-requires : tie.Need-is-filled-small-requires
-is-filled-small-requires c κs = rw (c .before .before .before .before .before .before .end-of .ensures) (record { width = c .before .before .before .before .before .before .before .before .pre .0; low = end-room (c .before .before .before .before .before .before .before .before .pre .0) _ (c .before .before .before .before .before .before .before .before .pre .1 .0); inside = omega arith; eight = omega arith; map = omega (arith, c .if2 .taken, c .before .before .before .map-end .ensures, c .before .before .before .before .before .before .end-of .ensures) })
+fixed : (c : tie.Else1) → Fixed (c .before .before .before .before .args .w) (c .before .before .before .before .args .h .now) (endOf (length (c .before .before .before .before .args .h .now)))
+fixed c = rw (c .before .before .end-of .ensures) at (c .before .is-fixed .ensures .yes-is (not-false _ (c .if1 .left)))
 
 returns-2 : tie.Need-returns-2
-returns-2 c = tells-so (sound-of (c .before .before .before .before .before .before .before .before .before .pre .0) _ (rw (c .before .before .before .before .before .before .before .end-of .ensures) at (c .before .before .before .before .before .before .is-fixed .ensures .yes-is (not-false _ (c .before .before .before .before .before .if1 .left))))) (sound-filled (c .before .before .before .before .before .before .before .before .before .pre .0) _) (rw (c .before .before .before .before .before .before .before .end-of .ensures) at (c .is-filled-small .ensures))
-
-map-end-requires-2 : tie.Need-map-end-requires-2
-map-end-requires-2 c κs = search needs
-
-is-filled-middle-requires : tie.Need-is-filled-middle-requires
-is-filled-middle-requires c κs = rw (c .before .before .before .before .before .before .before .before .before .before .end-of .ensures) (record { width = c .before .before .before .before .before .before .before .before .before .before .before .before .pre .0; low = end-room (c .before .before .before .before .before .before .before .before .before .before .before .before .pre .0) _ (c .before .before .before .before .before .before .before .before .before .before .before .before .pre .1 .0); inside = omega arith; eight = omega arith; map = omega (arith, c .if3 .taken, c .before .before .before .map-end2 .ensures, c .before .before .before .before .before .before .before .before .before .before .end-of .ensures) })
-
-returns-3 : tie.Need-returns-3
-returns-3 c = tells-so (sound-of (c .before .before .before .before .before .before .before .before .before .before .before .before .before .pre .0) _ (rw (c .before .before .before .before .before .before .before .before .before .before .before .end-of .ensures) at (c .before .before .before .before .before .before .before .before .before .before .is-fixed .ensures .yes-is (not-false _ (c .before .before .before .before .before .before .before .before .before .if1 .left))))) (sound-filled (c .before .before .before .before .before .before .before .before .before .before .before .before .before .pre .0) _) (rw (c .before .before .before .before .before .before .before .before .before .before .before .end-of .ensures) at (c .is-filled-middle .ensures))
-
-is-filled-large-requires : tie.Need-is-filled-large-requires
-is-filled-large-requires c κs = rw (c .before .before .before .before .before .before .before .before .before .before .end-of .ensures) (record { width = c .before .before .before .before .before .before .before .before .before .before .before .before .pre .0; low = end-room (c .before .before .before .before .before .before .before .before .before .before .before .before .pre .0) _ (c .before .before .before .before .before .before .before .before .before .before .before .before .pre .1 .0); inside = omega arith; eight = omega arith; map = omega (arith, c .before .before .before .before .before .before .before .before .before .before .before .before .pre .1 .1, most-bound (c .before .before .before .before .before .before .before .before .before .before .before .before .pre .0)) })
-
-returns-4 : tie.Need-returns-4
-returns-4 c = tells-so (sound-of (c .before .before .before .before .before .before .before .before .before .before .before .before .before .pre .0) _ (rw (c .before .before .before .before .before .before .before .before .before .before .before .end-of .ensures) at (c .before .before .before .before .before .before .before .before .before .before .is-fixed .ensures .yes-is (not-false _ (c .before .before .before .before .before .before .before .before .before .if1 .left))))) (sound-filled (c .before .before .before .before .before .before .before .before .before .before .before .before .before .pre .0) _) (rw (c .before .before .before .before .before .before .before .before .before .before .before .end-of .ensures) at (c .is-filled-large .ensures))
+returns-2 c = tells-so (sound-of (c .before .before .before .before .before .pre .0) _ (fixed (c .before))) (sound-filled (c .before .before .before .before .before .pre .0) _) (rw (c .before .before .before .end-of .ensures) at (c .is-filled .ensures))
 
 pub is-sound-spec : {M : Type 1} → statement M
 is-sound-spec =
@@ -48,11 +34,5 @@ is-sound-spec =
     end-of-requires
     is-fixed-requires
     returns
-    map-end-requires
-    is-filled-small-requires
-    returns-2
-    map-end-requires-2
-    is-filled-middle-requires
-    returns-3
-    is-filled-large-requires
-    returns-4)
+    is-filled-requires
+    returns-2)

@@ -1,11 +1,11 @@
 use native.Mathlib.Omega.{arith}
-use borrow.Author.Needs.{needs}
 use Rattle.sound.proofs.Places.{map-end-least}
-use Rattle.sound.proofs.map_end.Statement.{statement}
-use Rattle.sound.proofs.map_end.Tie as tie
+use borrow.Author.Needs.{needs}
+use Rattle.sound.proofs.map.map_end.Statement.{statement}
+use Rattle.sound.proofs.map.map_end.Tie as tie
 
 mul-at-bit : tie.Need-mul-at-bit
-mul-at-bit c = omega (arith, map-end-least (c .pre .0) (c .args .words))
+mul-at-bit c = omega (arith, c .pre .1, map-end-least (c .pre .0) (c .args .words))
 
 at-bit-requires : tie.Need-at-bit-requires
 at-bit-requires c κs = search needs
