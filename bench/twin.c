@@ -386,11 +386,27 @@ static void find_item(const uint8_t *h, struct live *live, uint64_t address)
         && get(h, address - 8) == used_header(class);
 }
 
+/* The list of the free blocks is in order of position: 0 if none is below the address. */
+static uint64_t last_free_below(const uint8_t *h, uint64_t address)
+{
+    uint64_t previous = 0;
+
+    for (uint64_t next = get(h, FIRST_FREE); next != 0 && next < address; next = next_of(h, next))
+        previous = next;
+    return previous;
+}
+
+/* The walk begins behind that block, so no free one is met. */
 static struct live find(const uint8_t *h, uint64_t end, uint64_t address)
 {
     struct live live = { false, false, 0, DATA_AREA, 0, 0 };
 
     if (address < DATA_AREA || address >= end)
+        return live;
+    live.previous_free = last_free_below(h, address);
+    if (live.previous_free != 0)
+        live.block = live.previous_free + get(h, live.previous_free);
+    if (address < live.block)
         return live;
     for (;;) {
         uint64_t tag = get(h, live.block);
@@ -402,8 +418,6 @@ static struct live find(const uint8_t *h, uint64_t end, uint64_t address)
                 find_item(h, &live, address);
             return live;
         }
-        if (kind_of(tag) == FREE)
-            live.previous_free = live.block;
         live.block += live.size;
     }
 }

@@ -5,6 +5,7 @@ use mathlib.Core.Bool.{Bool, true, false}
 use mathlib.Core.List.{List, [], _∷_, _++_, append-nil}
 use native.Mathlib.Nat.{mul-mod-left, div-add-mod', mul-div-cancel}
 use native.Mathlib.Omega.{arith}
+use native.Mathlib.Decide.{ℕ-discrete}
 use lib.ListN.{length, getD}
 use Rattle.words.specs.Width.{Width}
 use Rattle.words.specs.Word.{wordAt}
@@ -18,13 +19,15 @@ use Rattle.model.proofs.Good.{shape-good}
 use Rattle.model.proofs.Sizes.{per-page-bound}
 use Rattle.model.proofs.pictures.Pictures.{shows-left}
 use Rattle.model.proofs.blocks.Blocks.{allowed-left, le-ends}
-use Rattle.model.proofs.walks.Standing.{stand-start, PageThere, sized, walk-free, walk-used, is-variable, is-free, is-page}
+use Rattle.model.proofs.walks.Standing.{PageThere, sized, is-variable, is-free, is-page}
+use Rattle.model.proofs.walks.Passing.{stands as stands-at}
 use Rattle.model.specs.Parts.{freeKind, variableKind, sizeIn, kindIn, classIn, heldHeader, firstItemAt}
 use Rattle.model.specs.inner.Walks.{flag, Standing}
 use Rattle.model.proofs.walks.Finding.{behinds, slots-below, find-past, find-below, find-at, find-not-at, find-free, find-page}
 use Rattle.model.proofs.items.Aligned.{next-aligned, class-read, SlotRead, slot-read, slots-none}
 use Rattle.find.specs.declared.Live.the-variants.{Nothing, Item, Variable}
-use Rattle.find.specs.Find.{Finds, OnBlock, OnPage}
+use Rattle.find.specs.Find.{Finds, OnBlock, OnPage, behindAt, touchesAt, Clear, Nearest}
+use Rattle.find.proofs.NearestLaws.{standing, behind-none, touches-free, touches-not, clear-past, gap}
 
 module _ {w : ℕ} (wd : Width w) {b : List ℕ} {L : Layout} (h : Here (shape w) b L) {p prev left : ℕ} (s : Standing w L p prev left) where
   -- what is found is found from where the walk stands
@@ -35,13 +38,7 @@ module _ {w : ℕ} (wd : Width w) {b : List ℕ} {L : Layout} (h : Here (shape w
       e ∙ find-past (shape w) (shape-good wd) a (start (shape w)) (s .pre) (s .rest) (allowed-left (shape w) (s .pre) (s .rest) all) (omega (arith, s .begins))
       ∙ ap (λ (q : ℕ). behinds (s .pre) (findFrom (shape w) a q (s .rest))) (s .begins)
 
-  -- nothing is live where a block begins
-  pub found-between : (a : ℕ) → p ≡ a → Finds w L a Nothing
-  unfolding Finds
-  found-between a e =
-      find-from a (omega arith) ∙ ap (λ (f : Found). behinds (s .pre) f) (find-below (shape w) (shape-good wd) a p (s .rest) (omega arith))
-
--- nor behind the end
+-- nothing is live behind the end
 pub found-behind : {w : ℕ} → Width w → (b : List ℕ) (L : Layout) (a : ℕ) → Here (shape w) b L → endOf (length b) ≤ a → Finds w L a Nothing
 unfolding Finds findFrom
 found-behind {w} wd b L a h l =
@@ -187,34 +184,51 @@ pub found-before : {w : ℕ} → Width w → (L : Layout) (a : ℕ) → a < (sta
 unfolding Finds
 found-before {w} wd L a l = find-below (shape w) (shape-good wd) a (start (shape w)) (L .blocks) (omega arith)
 
--- the walk towards a stands at p
-pub record Looking (w : ℕ) (b : List ℕ) (a p prev : ℕ) (touching : Bool) : Type 0 where
+-- nor in a free block
+pub found-gap : {w : ℕ} (wd : Width w) {b : List ℕ} (L : Layout) (h : Here (shape w) b L) (a prev begin : ℕ) → Nearest w b L a prev → begin ≡ behindAt w b prev → start (shape w) ≤ a → a < begin → Finds w L a Nothing
+unfolding Finds
+found-gap {w} wd {b} L h a prev begin n e l m = go (ℕ-discrete prev 0)
+  where
+    go : Dec (prev ≡ 0) → Finds w L a Nothing
+    go (yes z) = absurd (omega (arith, e, behind-none w b prev z))
+    go (no z) =
+        let g = gap (rw (touches-free prev (behindAt w b prev) z) at (n .clear .between)) in
+        find-from wd h (stands-at (g .passed)) a (n .low) ∙ ap (λ (f : Found). behinds (g .pre) f) (find-free (shape w) (shape-good wd) a prev (g .size) (g .rest) (omega (arith, g .reach)))
+
+-- the walk towards a stands at p; it came from `begin`, behind the last free block below a, which is at prev
+pub record Looking (w : ℕ) (b : List ℕ) (a prev begin p : ℕ) : Type 0 where
   pub width : Width w
   pub sound : Sound (shape w) b
-  pub standing : (L : Layout) → Here (shape w) b L → Standing w L p prev (flag touching)
+  pub clear : (L : Layout) → Here (shape w) b L → Clear w L a p prev (touchesAt prev begin p)
+  pub behind : begin ≤ p
   pub from : p ≤ a
   pub below : a < endOf (length b)
 
-pub look-start : {w : ℕ} → Width w → (b : List ℕ) (a p : ℕ) → Sound (shape w) b → p ≡ start (shape w) → p ≤ a → a < endOf (length b) → Looking w b a p 0 false
-look-start {w} wd b a p s e l m = record { width = wd; sound = s; standing = λ L h. rw e (stand-start w L); from = l; below = m }
+pub look-start : {w : ℕ} → Width w → (b : List ℕ) (a prev begin : ℕ) → Sound (shape w) b → ((L : Layout) → Here (shape w) b L → Nearest w b L a prev) → begin ≡ behindAt w b prev → begin ≤ a → a < endOf (length b) → Looking w b a prev begin begin
+look-start {w} wd b a prev begin s n e l m =
+    record { width = wd; sound = s; clear = λ L h. rw e (n L h .clear); behind = omega arith; from = l; below = m }
 
-module _ {w : ℕ} {b : List ℕ} {a p prev : ℕ} {touching : Bool} (k : Looking w b a p prev touching) where
+module _ {w : ℕ} {b : List ℕ} {a prev begin p : ℕ} (k : Looking w b a prev begin p) where
+  stands-here : (L : Layout) → Here (shape w) b L → Standing w L p prev (flag (touchesAt prev begin p))
+  stands-here L h = standing (k .clear L h .between)
+
   -- the block at p is within the heap
-  pub look-inside : p < a → (t : ℕ) → t ≡ wordAt w b p → (leastFree (shape w) ≤ sizeIn t) × (p + sizeIn t ≤ endOf (length b))
-  look-inside l t e =
-      let z = sized (k .width) (k .sound .here) (k .standing (k .sound .layout) (k .sound .here)) t e (omega (arith, k .below)) in
+  pub look-inside : (t : ℕ) → t ≡ wordAt w b p → (leastFree (shape w) ≤ sizeIn t) × (p + sizeIn t ≤ endOf (length b))
+  look-inside t e =
+      let z = sized (k .width) (k .sound .here) (stands-here (k .sound .layout) (k .sound .here)) t e (omega (arith, k .from, k .below)) in
       (z .least, z .inside)
 
-  pub look-on : (t : ℕ) → t ≡ wordAt w b p → a < p + sizeIn t → OnBlock w b p t prev touching a
-  look-on t e r = record { width = k .width; sound = k .sound; standing = k .standing; tag = e; from = k .from; reach = r; below = k .below }
+  pub look-on : (t : ℕ) → t ≡ wordAt w b p → (touching : Bool) → touching ≡ touchesAt prev begin p → a < p + sizeIn t → OnBlock w b p t prev touching a
+  look-on t e touching f r = record { width = k .width; sound = k .sound; standing = λ L h. rw f (stands-here L h); tag = e; from = k .from; reach = r; below = k .below }
 
-  pub look-past-free : p < a → (t s : ℕ) → t ≡ wordAt w b p → s ≡ sizeIn t → p + s ≤ a → kindIn t ≡ freeKind → Looking w b a (p + s) p true
-  look-past-free l t s e es r z =
-      record { width = k .width; sound = k .sound; standing = λ L h. rw es (walk-free (k .width) h (k .standing L h) t e (omega (arith, k .below)) z); from = r; below = k .below }
-
-  pub look-past-used : p < a → (t s : ℕ) → t ≡ wordAt w b p → s ≡ sizeIn t → p + s ≤ a → (kindIn t ≡ freeKind → ⊥) → Looking w b a (p + s) prev false
-  look-past-used l t s e es r z =
-      record { width = k .width; sound = k .sound; standing = λ L h. rw es (walk-used (k .width) h (k .standing L h) t e (omega (arith, k .below)) z); from = r; below = k .below }
-
-  pub look-end : a ≤ p → (L : Layout) → Here (shape w) b L → Finds w L a Nothing
-  look-end l L h = found-between (k .width) h (k .standing L h) a (omega (arith, k .from))
+  pub look-past : (t s : ℕ) → t ≡ wordAt w b p → s ≡ sizeIn t → p + s ≤ a → Looking w b a prev begin (p + s)
+  look-past t s e es r =
+      let n = look-inside t e in
+      record {
+        width = k .width;
+        sound = k .sound;
+        clear = λ L h. rw (touches-not prev begin (p + s) (omega (arith, k .behind, n .0, k .width, es)), es) (clear-past (k .width) h (k .clear L h) t e (omega (arith, n .0, k .width)) (k .below) (omega arith));
+        behind = omega (arith, k .behind);
+        from = r;
+        below = k .below;
+      }
