@@ -18,7 +18,8 @@ enum {
     CLASSES = 32,
     SMALLEST_FREE = 32,
     SMALLEST_VARIABLE = 280,
-    SMALLEST_PAGE = 4112
+    SMALLEST_PAGE = 4112,
+    CHUNK = 128
 };
 
 enum kind { FREE = 0, VARIABLE = 2, PAGE = 3 };
@@ -334,16 +335,21 @@ static void release_block(uint8_t *h, uint64_t block, uint64_t size, uint64_t pr
 static bool make_page(uint8_t *h, uint64_t class)
 {
     uint64_t step = item_size(class);
-    uint64_t bytes = items_in_page(class) * step;
-    uint64_t page = take_block(h, bytes + 16, PAGE);
+    uint64_t items = items_in_page(class);
+    uint64_t page = take_block(h, items * step + 16, PAGE);
 
     if (page == 0)
         return false;
-    uint64_t last = page + 8 + bytes - step;
-    for (uint64_t item = page + 8; item != last; item += step)
-        put(h, item, free_header(class, item + step - INDEX_PAGE));
-    put(h, last, free_header(class, 0));
-    put_head(h, class, page + 8 - INDEX_PAGE);
+    uint64_t first = page + 8;
+    uint64_t left = (items - 1) * step;
+    uint64_t header = free_header(class, first + left - INDEX_PAGE);
+    put_head(h, class, first - INDEX_PAGE);
+    put(h, first + left, free_header(class, 0));
+    while (left != 0) { /* downwards: four instructions an item */
+        put(h, first + left - step, header);
+        header -= free_header(class, step) - free_header(class, 0);
+        left -= step;
+    }
     return true;
 }
 
@@ -474,6 +480,27 @@ static void mend_previous(const uint8_t *h, struct live *live, uint64_t one_befo
     live->previous_free = kind_of(get(h, behind)) == FREE ? behind : one_before;
 }
 
+/* In chunks: that takes fewer instructions than the C library's memcpy does. The last one may cover a part of the one before it. */
+static void copy_chunk(uint8_t *to, const uint8_t *from)
+{
+    uint8_t chunk[CHUNK];
+
+    memcpy(chunk, from, CHUNK);
+    memcpy(to, chunk, CHUNK);
+}
+
+static void copy(uint8_t *to, const uint8_t *from, uint64_t size)
+{
+    if (size < CHUNK) {
+        memcpy(to, from, size);
+        return;
+    }
+    uint64_t last = size - CHUNK;
+    for (uint64_t i = 0; i < last; i += CHUNK)
+        copy_chunk(to + i, from + i);
+    copy_chunk(to + last, from + last);
+}
+
 static uint64_t move(uint8_t *h, struct live *live, uint64_t address, uint64_t size)
 {
     uint64_t capacity = live->is_item ? 8 * live->class + 8 : live->size - 16;
@@ -482,7 +509,7 @@ static uint64_t move(uint8_t *h, struct live *live, uint64_t address, uint64_t s
 
     if (new == 0)
         return 0;
-    memcpy(h + new, h + address, capacity < size ? capacity : size);
+    copy(h + new, h + address, capacity < size ? capacity : size);
     mend_previous(h, live, one_before);
     release(h, live, address);
     return new;
