@@ -1,4 +1,5 @@
 // Pages of items.
+use model::ItemOffset;
 use model::PAGE;
 use model::Position;
 use model::first_item_at;
@@ -22,21 +23,23 @@ ghost use Rattle.model.specs.inner.Links.{itemWords};
 ghost use Rattle.model.specs.inner.Walks.{Spotted};
 ghost use Rattle.pages.specs.Pages.{ItemsRoom, NoItem, MadePage};
 
-// The headers of a page's items of class c from p on, all free, each linked to the next.
+// The headers of a page's items of class c from p on, all free, each linked to the next. They are written from the last one down, so that `left`, the bytes before the last item written, is also where the next one ends.
 fn link_items(w: usize, h: &mut [u8], c: usize, p: Position)
     requires { ⌜ ItemsRoom w (length (now h)) c (p .0) ⌝ }
     ensures { λ _. ⌜ now (h .exit) ≡ draw w (itemWords (shape w) c (p .0) (shape w .perPage c)) (now (h .entry)) ⌝ }
 {
     let size = item_size(w, c);
-    let mut left = items_in_page(w, c);
-    let mut at = p;
-    while 1 < left {
-        let next = Position(at.0 + size);
-        put_word(w, h, at.0, free_header(c, offset_of(w, next)));
-        at = next;
-        left -= 1;
+    // A header names an item that is one size further on than the one before it names.
+    let step = free_header(c, ItemOffset(size)) - free_mark(c);
+    let mut left = (items_in_page(w, c) - 1) * size;
+    let last = Position(p.0 + left);
+    let mut header = free_header(c, offset_of(w, last));
+    put_word(w, h, last.0, free_mark(c));
+    while left != 0 {
+        put_word(w, h, p.0 + left - size, header);
+        header -= step;
+        left -= size;
     }
-    put_word(w, h, at.0, free_mark(c));
 }
 
 // A page of class c, whose list is empty, is made of the free block at p.
