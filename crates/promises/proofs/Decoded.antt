@@ -20,7 +20,7 @@ use Rattle.model.proofs.blocks.Blocks.{le-ends}
 use Rattle.sound.specs.Onward.{Slots, useKind, Headers, Reads}
 use Rattle.sound.specs.Lists.{named, Chain, Chains}
 use Rattle.sound.proofs.MapLaws.{fewer}
-use Rattle.sound.proofs.Pages.{classAt, page-class}
+use Rattle.sound.proofs.PageLaws.{classAt, page-class}
 use Rattle.sound.proofs.Walks.{use-size, use-kind}
 use Rattle.sound.proofs.HereFilled.{here-reads, here-chains}
 use Rattle.promises.proofs.Stable.{numbers}

@@ -1,17 +1,18 @@
 -- Laws of the count along the item lists: what a test tells of the lists, and why counting is enough.
 use Prim.Native.Nat.{ℕ, zero, suc, _+_, _-_, _%_, _^_, _≤_, _<_}
 use mathlib.Core.Path.{_≡_, refl, sym, ap, _∙_}
-use mathlib.Core.Bool.{cond}
+use mathlib.Core.Bool.{true, cond}
 use mathlib.Core.List.{List, [], _∷_}
 use native.Mathlib.Omega.{arith}
 use native.Mathlib.Decide.{ℕ-discrete, decLe}
 use lib.ListN.{length, length-append}
 use lib.Dec.{eqb}
-use lib.Bits.{bitOr, or-add-and, and-le-l, and-le-r}
-use borrow.Author.Tests.{eq-eqb, ne-eqb}
+use lib.Bits.{bitOr}
+use borrow.Author.Tests.{eqb-true, eq-eqb, ne-eqb}
 use Rattle.words.specs.Width.{Width}
 use Rattle.words.specs.Word.{wordAt}
 use Rattle.words.specs.Bits.{bitAt}
+use Rattle.words.proofs.BitLaws.{beyond-clear}
 use Rattle.model.specs.Shape.{shape, itemAt}
 use Rattle.model.specs.Parts.{freeMark, classAndFlags, nextIn, headAt}
 use Rattle.model.specs.Sound.{times}
@@ -19,14 +20,15 @@ use Rattle.model.proofs.pictures.Drawn.{times-append}
 use Rattle.model.proofs.Sizes.{zero-even}
 use Rattle.sound.specs.Maps.{Marked, offsetBit, offsetAtBit, atBit}
 use Rattle.sound.specs.Lists.{FreeItemAt, named, Chain, Chains, flat, ListCounted, Listed}
+use Rattle.sound.specs.Tells.{Tells}
 use Rattle.sound.specs.Told.{NextBit, ListTold, FourEmpty}
 use Rattle.sound.specs.declared.map.Marks.{Marks}
 use Rattle.sound.specs.declared.map.Marks.the-variants.{Unsound, Count}
 use Rattle.sound.proofs.Tellings.{no-count, count-no, count-same}
-use Rattle.sound.proofs.MapLaws.{bit-low, same-bit, fewer, all-met}
+use Rattle.sound.proofs.MapLaws.{bit-low, same-bit, fewer, all-met, marked-none}
 use Rattle.sound.proofs.Chained.{same-chain}
 use Rattle.sound.proofs.Agree.{flat-item, flat-once}
-use Rattle.sound.proofs.Places.{offset-none, offset-back, offset-zero, offset-even, bit-is, next-even}
+use Rattle.sound.proofs.Places.{or-more, offset-none, offset-back, offset-zero, offset-even, bit-is, next-even}
 
 -- the count of a list's items stands at the item of bit i, or at the end, with n left; or, where an item was of another class, beyond every map
 pub record ListInv (w : ℕ) (b : List ℕ) (end c o : ℕ) (m : List ℕ) (before n i : ℕ) : Type 0 where
@@ -227,16 +229,13 @@ module _ {w : ℕ} {b : List ℕ} {end : ℕ} {m : List ℕ} {before n c : ℕ} 
 pub four-empty : {w : ℕ} {b : List ℕ} {c x y z u : ℕ} → c + 4 ≤ shape w .classes → x ≡ wordAt w b (headAt (shape w) c) → y ≡ wordAt w b (headAt (shape w) (c + 1)) → z ≡ wordAt w b (headAt (shape w) (c + 2)) → u ≡ wordAt w b (headAt (shape w) (c + 3)) → bitOr (bitOr (bitOr x y) z) u ≡ 0 → FourEmpty w b c
 four-empty {w} {b} {c} {x} {y} {z} {u} h ex ey ez eu e = record { few = h; heads = at }
   where
-    more : (p q : ℕ) → (p ≤ bitOr p q) × (q ≤ bitOr p q)
-    more p q = (omega (arith, or-add-and p q, and-le-r p q), omega (arith, or-add-and p q, and-le-l p q))
-
     at : (k : ℕ) → k < 4 → wordAt w b (headAt (shape w) (c + k)) ≡ 0
     at zero l =
         let none : c + 0 ≡ c = omega arith in
-        rw none (omega (arith, ex, e, more x y, more (bitOr x y) z, more (bitOr (bitOr x y) z) u))
-    at (suc zero) l = omega (arith, ey, e, more x y, more (bitOr x y) z, more (bitOr (bitOr x y) z) u)
-    at (suc (suc zero)) l = omega (arith, ez, e, more (bitOr x y) z, more (bitOr (bitOr x y) z) u)
-    at (suc (suc (suc zero))) l = omega (arith, eu, e, more (bitOr (bitOr x y) z) u)
+        rw none (omega (arith, ex, e, or-more x y, or-more (bitOr x y) z, or-more (bitOr (bitOr x y) z) u))
+    at (suc zero) l = omega (arith, ey, e, or-more x y, or-more (bitOr x y) z, or-more (bitOr (bitOr x y) z) u)
+    at (suc (suc zero)) l = omega (arith, ez, e, or-more (bitOr x y) z, or-more (bitOr (bitOr x y) z) u)
+    at (suc (suc (suc zero))) l = omega (arith, eu, e, or-more (bitOr (bitOr x y) z) u)
     at (suc (suc (suc (suc k)))) l = absurd (omega arith)
 
 -- four empty lists
@@ -295,3 +294,38 @@ module _ {w : ℕ} (wd : Width w) {b : List ℕ} {end : ℕ} {m : List ℕ} {n :
 
       met : (j : ℕ) → times j (bitsOf w (flat (r .lists))) ≤ times j (k .list)
       met j = omega (arith, bits-flat wd b end (r .lists) (r .chains) j, go j (decLe 1 (times (offsetAtBit w j) (flat (r .lists)))))
+
+-- without a mark every list must be empty: the heads before class c, or-ed, are 0 exactly where their lists are
+pub record NoneListed (w : ℕ) (b : List ℕ) (end any c : ℕ) : Type 0 where
+  pub none : any ≡ 0 → ListsInv w b end [] 0 0 c
+  pub some : (any ≡ 0 → ⊥) → Listed w b end [] → ⊥
+
+no-marks : Marked [] 0
+no-marks = marked-none (λ j. beyond-clear [] j (omega arith))
+
+-- a list that begins with an item is too long
+list-any : {w : ℕ} {b : List ℕ} {end c o n : ℕ} → (o ≡ 0 → ⊥) → ListTold w b end c o [] n Unsound
+unfolding Chain times
+list-any {w} {b} {end} {c} {o} f = list-no (λ s r. go (r .list) (r .chain) (r .set))
+  where
+    go : (l : List ℕ) → Chain w b end c o l → ((x : ℕ) → 1 ≤ times x l → bitAt [] (offsetBit w x) ≡ 1) → ⊥
+    go [] h g = f h
+    go (x ∷ xs) h g = omega (arith, g x (rw (eq-eqb x x refl) (omega arith)), beyond-clear [] (offsetBit w x) (omega arith))
+
+pub none-start : {w : ℕ} → Width w → {b : List ℕ} {end : ℕ} → NoneListed w b end 0 0
+none-start wd = record { none = λ _. lists-start wd no-marks; some = λ f. absurd (f refl) }
+
+pub none-turn : {w : ℕ} {b : List ℕ} {end any c x : ℕ} → c < shape w .classes → x ≡ wordAt w b (headAt (shape w) c) → NoneListed w b end any c → NoneListed w b end (bitOr any x) (c + 1)
+none-turn {w} {b} {end} {any} {c} {x} h e v = record { none = λ z. lists-turn (v .none (omega (arith, z, or-more any x))) h x e (Count 0) 0 (list-none (omega (arith, z, or-more any x))) refl; some = λ f. go f (ℕ-discrete any 0) (ℕ-discrete x 0) }
+  where
+    go : (bitOr any x ≡ 0 → ⊥) → Dec (any ≡ 0) → Dec (x ≡ 0) → Listed w b end [] → ⊥
+    go f (no a) d l = v .some a l
+    go f (yes a) (no d) l = let i = v .none a in lists-fail i h x e Unsound (list-any d) refl (listed-passed (i .width) no-marks l)
+    go f (yes a) (yes d) l = f (rw (a, d) refl)
+
+pub none-told : {w : ℕ} {b : List ℕ} {end any c : ℕ} → shape w .classes ≤ c → NoneListed w b end any c → Tells (eqb any 0) (Listed w b end [])
+none-told {w} {b} {end} {any} h v = record { yes-is = λ t. let i = v .none (eqb-true any 0 t) in passed-listed (i .width) no-marks (lists-yes i h refl); is-yes = λ l. go (ℕ-discrete any 0) l }
+  where
+    go : Dec (any ≡ 0) → Listed w b end [] → eqb any 0 ≡ true
+    go (yes e) l = eq-eqb any 0 e
+    go (no e) l = absurd (v .some e l)

@@ -3,7 +3,9 @@ use Prim.Native.Nat.{ℕ, zero, suc, _+_, _-_, _*_, _/_, _%_, _^_, _≤_, _<_}
 use mathlib.Core.Path.{_≡_, refl, sym, ap, subst, _∙_}
 use mathlib.Core.List.{List, [], _∷_}
 use native.Mathlib.Omega.{arith}
+use native.Mathlib.Decide.{ℕ-discrete}
 use lib.ListN.{length}
+use lib.Bits.{bitOr}
 use Rattle.words.specs.Width.{Width}
 use Rattle.words.specs.Word.{wordAt}
 use Rattle.words.specs.Bits.{marked}
@@ -20,7 +22,7 @@ use Rattle.sound.specs.declared.map.Marks.{Marks}
 use Rattle.sound.specs.declared.map.Marks.the-variants.{Unsound, Count}
 use Rattle.sound.proofs.Tellings.{no-count, count-no, count-same}
 use Rattle.sound.proofs.MapLaws.{adds-none, adds-mark, marking-on, marking-more, length-marked}
-use Rattle.sound.proofs.Places.{bit-room, bit-step, bits-less, bits-order, bits-stop, bits-within, bit-least, map-end-bound, first-bit}
+use Rattle.sound.proofs.Places.{near-parts, far-part, or-low, no-flags, bit-room, bit-step, bits-less, bits-order, bits-stop, bits-within, bit-least, map-end-bound, first-bit}
 
 -- a header of an item of class c: of a free one, or of one in use
 pub data Header (w : ℕ) (b : List ℕ) (c q : ℕ) : Type 0 where
@@ -53,25 +55,33 @@ items-held : {w : ℕ} {b : List ℕ} {c q n : ℕ} {m m′ : List ℕ} → (n �
 unfolding Slots idleSlots
 items-held z e r = record { items = record { slots = held ∷ r .items .slots; count = omega (arith, r .items .count); headers = (e, r .items .headers) }; adds = r .adds }
 
--- the marking of a page's items stands at bit i: `left` of them are ahead
-pub record ItemsInv (w : ℕ) (b m₀ : List ℕ) (first stop c : ℕ) (m : List ℕ) (n i : ℕ) : Type 0 where
+-- the marking of a page's items stands at bit i: `left` of them are ahead, n would be marked if all of these were free, and all that are marked are free exactly where `wrong` has no class and flags
+pub record ItemsInv (w : ℕ) (b m₀ : List ℕ) (first stop c : ℕ) (m : List ℕ) (n wrong i : ℕ) : Type 0 where
   pub width : Width w
   pub left : ℕ
   pub stops : atBit w stop ≡ atBit w i + left * itemSize (shape w) c
   pub ahead : Items w b c (atBit w first) (shape w .perPage c) → Items w b c (atBit w i) left
-  pub back : (m′ : List ℕ) → ItemsMarked w b c (atBit w i) left m m′ → ItemsMarked w b c (atBit w first) (shape w .perPage c) m₀ m′
-  pub marking : Marking w m n (atBit w i)
+  pub back : classAndFlags (shape w) wrong ≡ 0 → (m′ : List ℕ) → ItemsMarked w b c (atBit w i) left m m′ → ItemsMarked w b c (atBit w first) (shape w .perPage c) m₀ m′
+  pub bad : (classAndFlags (shape w) wrong ≡ 0 → ⊥) → Items w b c (atBit w first) (shape w .perPage c) → ⊥
+  pub marks : ℕ
+  pub all : n ≡ marks + left
+  pub marking : Marking w m marks (atBit w i)
   pub map : atBit w stop ≤ mapEnd w (length m)
   pub size : length m ≡ length m₀
 
-pub items-start : {w : ℕ} {b m : List ℕ} {i stop c n : ℕ} → MarkRoom w b m i stop c n → ItemsInv w b m i stop c m n i
-items-start r = record { width = r .width; left = _; stops = r .stops; ahead = λ i. i; back = λ m′ i. i; marking = r .marking; map = r .map; size = refl }
+pub items-start : {w : ℕ} {b m : List ℕ} {i stop c before : ℕ} (n : ℕ) → n ≡ before + shape w .perPage c → MarkRoom w b m i stop c before → ItemsInv w b m i stop c m n 0 i
+items-start {w} n e r =
+    record { width = r .width; left = _; stops = r .stops; ahead = λ i. i; back = λ _ m′ i. i; bad = λ f. absurd (f (no-flags (r .width))); marks = _; all = e; marking = r .marking; map = r .map; size = refl }
+
+one-less : (m : ℕ) → (m ≡ 0 → ⊥) → m - 1 + 1 ≡ m
+one-less zero z = absurd (z refl)
+one-less (suc m) z = omega arith
 
 pred-mul : (m k : ℕ) → (m ≡ 0 → ⊥) → k + (m - 1) * k ≡ m * k
 pred-mul zero k z = absurd (z refl)
 pred-mul (suc m) k z = let e : suc m - 1 ≡ m = omega arith in rw e (omega arith)
 
-module _ {w : ℕ} {b m₀ : List ℕ} {first stop c : ℕ} {m : List ℕ} {n i : ℕ} (v : ItemsInv w b m₀ first stop c m n i) where
+module _ {w : ℕ} {b m₀ : List ℕ} {first stop c : ℕ} {m : List ℕ} {n wrong i : ℕ} (v : ItemsInv w b m₀ first stop c m n wrong i) where
   -- a bit before another is that of an earlier item
   at-less : i < stop → atBit w i < atBit w stop
   at-less h = bits-less (v .width) i stop h
@@ -91,53 +101,80 @@ module _ {w : ℕ} {b m₀ : List ℕ} {first stop c : ℕ} {m : List ℕ} {n i 
       let more : s ≡ 0 → ⊥ = λ z. omega (arith, v .width .least, ap (λ (x : ℕ). atBit w (i + x)) z) in
       (omega arith, l, omega (arith, bit-least (v .width) stop), omega (arith, items-fit h))
 
-  -- a header that is neither
-  pub items-wrong : i < stop → (x : ℕ) → x ≡ wordAt w b (atBit w i) → (classAndFlags (shape w) x ≡ freeMark c → ⊥) → (x ≡ heldHeader c → ⊥) → (m′ : List ℕ) → ItemsTold w b m₀ first stop c Unsound m′
-  items-wrong h x e f g m′ = record { is-no = λ _ k. go (items-in b c (atBit w i) (v .left) (items-some h) (v .ahead k) .0); is-yes = λ n y. absurd (no-count y) }
+  -- an item in use is not marked
+  pub items-some-left : i < stop → 1 ≤ n
+  items-some-left h = go (v .left) refl
     where
-      go : Header w b c (atBit w i) → ⊥
-      go (of-idle y) = f (rw e y)
-      go (of-held y) = g (e ∙ y)
+      go : (k : ℕ) → v .left ≡ k → 1 ≤ n
+      go zero e = absurd (items-some h e)
+      go (suc k) e = omega (arith, v .all, e)
 
   module _ (h : i < stop) (x s : ℕ) (e : x ≡ wordAt w b (atBit w i)) (es : s ≡ itemSize (shape w) c / w) where
     -- where the next item is
     next-at : atBit w (i + s) ≡ atBit w i + itemSize (shape w) c
     next-at = bit-step (v .width) i c s es
 
-    pub items-turn-idle : classAndFlags (shape w) x ≡ freeMark c → (m₁ : List ℕ) → m₁ ≡ marked m i → ItemsInv w b m₀ first stop c m₁ (n + 1) (i + s)
-    items-turn-idle f m₁ em =
-        record {
-          width = v .width;
-          left = v .left - 1;
-          stops = omega (arith, next-at, v .stops, pred-mul (v .left) (itemSize (shape w) c) (items-some h));
-          ahead = λ k. rw next-at (items-in b c (atBit w i) (v .left) (items-some h) (v .ahead k) .1);
-          back = λ m′ r. v .back m′ (items-idle (v .width) i (items-some h) (rw e at f) (omega (arith, v .map, at-less h)) (v .marking .clear) em (rw next-at at r));
-          marking = rw next-at (marking-more (v .width) i (itemSize (shape w) c) (omega (arith, v .map, at-less h)) (omega arith) em (v .marking));
-          map = rw (length-marked m m₁ i em) (v .map);
-          size = length-marked m m₁ i em ∙ v .size;
-        }
-
-    pub items-turn-held : x ≡ heldHeader c → ItemsInv w b m₀ first stop c m n (i + s)
+    pub items-turn-held : x ≡ heldHeader c → ItemsInv w b m₀ first stop c m (n - 1) wrong (i + s)
     items-turn-held f =
         record {
           width = v .width;
           left = v .left - 1;
           stops = omega (arith, next-at, v .stops, pred-mul (v .left) (itemSize (shape w) c) (items-some h));
           ahead = λ k. rw next-at (items-in b c (atBit w i) (v .left) (items-some h) (v .ahead k) .1);
-          back = λ m′ r. v .back m′ (items-held (items-some h) (sym e ∙ f) (rw next-at at r));
+          back = λ ok m′ r. v .back ok m′ (items-held (items-some h) (sym e ∙ f) (rw next-at at r));
+          bad = v .bad;
+          marks = v .marks;
+          all = omega (arith, v .all, one-less (v .left) (items-some h));
           marking = rw next-at (marking-on (omega arith) (v .marking));
           map = v .map;
           size = v .size;
         }
 
-  pub items-done : stop ≤ i → ItemsTold w b m₀ first stop c (Count n) m
-  items-done h = record { is-no = λ y. absurd (count-no y); is-yes = λ k y. rw (← count-same y) (go (v .left) refl) }
+    -- any other is, and y is the difference of its header and a free one's
+    module _ (f : x ≡ heldHeader c → ⊥) (few : c < shape w .classes) (y : ℕ) (fits : y < 2 ^ 64) (ey : (y + freeMark c) % 2 ^ 64 ≡ x) where
+      right : classAndFlags (shape w) y ≡ 0 → classAndFlags (shape w) x ≡ freeMark c
+      right z = go (ℕ-discrete (classAndFlags (shape w) x) (freeMark c))
+        where
+          go : Dec (classAndFlags (shape w) x ≡ freeMark c) → classAndFlags (shape w) x ≡ freeMark c
+          go (yes g) = g
+          go (no g) = absurd (omega (arith, far-part (v .width) x y c few fits ey g, z))
+
+      is-bad : (classAndFlags (shape w) (bitOr wrong y) ≡ 0 → ⊥) → Items w b c (atBit w first) (shape w .perPage c) → ⊥
+      is-bad g k = go (ℕ-discrete (classAndFlags (shape w) wrong) 0) (items-in b c (atBit w i) (v .left) (items-some h) (v .ahead k) .0)
+        where
+          go : Dec (classAndFlags (shape w) wrong ≡ 0) → Header w b c (atBit w i) → ⊥
+          go (no a) u = v .bad a k
+          go (yes a) (of-idle u) = g (or-low (v .width) wrong y .1 (a, near-parts (v .width) x y c few fits ey (rw e u) .0))
+          go (yes a) (of-held u) = f (e ∙ u)
+
+      pub items-turn-idle : (m₁ : List ℕ) → m₁ ≡ marked m i → ItemsInv w b m₀ first stop c m₁ n (bitOr wrong y) (i + s)
+      items-turn-idle m₁ em =
+          record {
+            width = v .width;
+            left = v .left - 1;
+            stops = omega (arith, next-at, v .stops, pred-mul (v .left) (itemSize (shape w) c) (items-some h));
+            ahead = λ k. rw next-at (items-in b c (atBit w i) (v .left) (items-some h) (v .ahead k) .1);
+            back = λ ok m′ r. let z = or-low (v .width) wrong y .0 ok in v .back (z .0) m′ (items-idle (v .width) i (items-some h) (rw e at (right (z .1))) (omega (arith, v .map, at-less h)) (v .marking .clear) em (rw next-at at r));
+            bad = is-bad;
+            marks = v .marks + 1;
+            all = omega (arith, v .all, one-less (v .left) (items-some h));
+            marking = rw next-at (marking-more (v .width) i (itemSize (shape w) c) (omega (arith, v .map, at-less h)) (omega arith) em (v .marking));
+            map = rw (length-marked m m₁ i em) (v .map);
+            size = length-marked m m₁ i em ∙ v .size;
+          }
+
+  pub items-wrong : (classAndFlags (shape w) wrong ≡ 0 → ⊥) → (m′ : List ℕ) → ItemsTold w b m₀ first stop c Unsound m′
+  items-wrong f m′ = record { is-no = λ _ k. v .bad f k; is-yes = λ n y. absurd (no-count y) }
+
+  pub items-done : stop ≤ i → classAndFlags (shape w) wrong ≡ 0 → ItemsTold w b m₀ first stop c (Count n) m
+  items-done h ok = record { is-no = λ y. absurd (count-no y); is-yes = λ k y. rw (← count-same y) (go (v .left) refl) }
     where
       go : (k : ℕ) → v .left ≡ k → ItemsMarked w b c (atBit w first) (shape w .perPage c) m₀ m × Marking w m n (atBit w stop)
       go (suc k) e = absurd (omega (arith, v .width .least, v .stops, bits-order (v .width) stop i h, ap (λ (x : ℕ). atBit w i + x * itemSize (shape w) c) e))
       go zero e =
           let at-end : atBit w stop ≡ atBit w i = omega (arith, v .stops, ap (λ (x : ℕ). atBit w i + x * itemSize (shape w) c) e) in
-          (v .back m (rw e (items-none (v .width) b c (atBit w i) m)), rw at-end (v .marking))
+          let n-is : n ≡ v .marks = omega (arith, v .all, e) in
+          (v .back ok m (rw e (items-none (v .width) b c (atBit w i) m)), rw (at-end, n-is) (v .marking))
 
 -- the class that the first header of a page at p says
 abbrev pub classAt : ℕ → List ℕ → ℕ → ℕ
@@ -187,7 +224,7 @@ page-out {w} wd b p s c m m′ lc a l h i =
     }
 
 -- a variable block
-variable-in : {w : ℕ} (b : List ℕ) (p s : ℕ) → UseAt w b p s variableKind → leastVariable (shape w) ≤ s
+pub variable-in : {w : ℕ} (b : List ℕ) (p s : ℕ) → UseAt w b p s variableKind → leastVariable (shape w) ≤ s
 unfolding useKind AllowedUse useSize
 variable-in {w} b p s r = go (r .use-is) (r .allowed) (r .size) (r .kind-is)
   where

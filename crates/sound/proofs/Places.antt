@@ -1,15 +1,16 @@
 -- The places of items, as positions, offsets and bits of the map: what holds at both word sizes.
-use Prim.Native.Nat.{ℕ, zero, suc, _+_, _*_, _/_, _%_, _^_, _≤_, _<_}
-use mathlib.Core.Path.{_≡_, ap, _∙_}
+use Prim.Native.Nat.{ℕ, zero, suc, _+_, _-_, _*_, _/_, _%_, _^_, _≤_, _<_}
+use mathlib.Core.Path.{_≡_, refl, ap, _∙_}
 use mathlib.Core.List.{List}
 use native.Mathlib.Omega.{arith}
 use native.Mathlib.Decide.{ℕ-discrete}
 use borrow.Author.Tests.{eq-eqb, ne-eqb}
+use lib.Bits.{bitOr, or-mod, or-add-and, and-le-l, and-le-r}
 use Rattle.words.specs.Width.{Width}
 use Rattle.words.specs.Word.{wordAt}
 use Rattle.words.proofs.WidthLaws.{widths}
-use Rattle.model.specs.Shape.{shape, index, start, itemSize, offsetOf}
-use Rattle.model.specs.Parts.{freeKind, kindIn, indexTag, freeHeader, heldHeader, freeMark, classAndFlags, nextIn}
+use Rattle.model.specs.Shape.{shape, index, start, shortest, itemSize, offsetOf}
+use Rattle.model.specs.Parts.{freeKind, kindIn, sizeIn, indexTag, freeHeader, heldHeader, freeMark, classAndFlags, nextIn}
 use Rattle.model.specs.inner.Links.{linkOf}
 use Rattle.sound.specs.Maps.{offsetBit, offsetAtBit, atBit, mapEnd, largeMap}
 
@@ -26,6 +27,13 @@ sum-eight q r h k = omega arith
 
 sum-far : (q r : ℕ) → 1 ≤ r → 2 ^ 32 ≤ q + r * 2 ^ 57
 sum-far q r h = omega arith
+
+-- a number or-ed with another is no less than either
+pub or-more : (a b : ℕ) → (a ≤ bitOr a b) × (b ≤ bitOr a b)
+or-more a b = (omega (arith, or-add-and a b, and-le-r a b), omega (arith, or-add-and a b, and-le-l a b))
+
+or-parts : (a b k : ℕ) → (bitOr a b % 2 ^ k ≡ 0 → (a % 2 ^ k ≡ 0) × (b % 2 ^ k ≡ 0)) × ((a % 2 ^ k ≡ 0) × (b % 2 ^ k ≡ 0) → bitOr a b % 2 ^ k ≡ 0)
+or-parts a b k = (λ e. (omega (arith, e, or-mod a b k, or-more (a % 2 ^ k) (b % 2 ^ k)), omega (arith, e, or-mod a b k, or-more (a % 2 ^ k) (b % 2 ^ k))), λ e. or-mod a b k ∙ rw (e .0, e .1) refl)
 
 module _ {w : ℕ} (wd : Width w) where
   -- a bit is one offset's, and no other's
@@ -113,10 +121,10 @@ module _ {w : ℕ} (wd : Width w) where
       widths (λ w. y < 2 ^ 64 → (y % (16 * w) * 2 ^ 57 < 2 ^ 64) × (y / (16 * w) + y % (16 * w) * 2 ^ 57 < 2 ^ 64)) (λ h. sum-four (y / 64) (y % 64) (omega arith) (omega arith)) (λ h. sum-eight (y / 128) (y % 128) (omega arith) (omega arith)) w wd
 
   module _ (x y c : ℕ) (few : c < shape w .classes) (fits : y < 2 ^ 64) (e : (y + freeMark c) % 2 ^ 64 ≡ x) where
-    near-parts : classAndFlags (shape w) x ≡ freeMark c → (y % (16 * w) ≡ 0) × (y / (16 * w) ≡ offsetBit w (nextIn (shape w) x))
+    pub near-parts : classAndFlags (shape w) x ≡ freeMark c → (y % (16 * w) ≡ 0) × (y / (16 * w) ≡ offsetBit w (nextIn (shape w) x))
     near-parts = widths (λ w. c < shape w .classes → classAndFlags (shape w) x ≡ freeMark c → (y % (16 * w) ≡ 0) × (y / (16 * w) ≡ offsetBit w (nextIn (shape w) x))) (omega (arith, fits, e)) (omega (arith, fits, e)) w wd few
 
-    far-part : (classAndFlags (shape w) x ≡ freeMark c → ⊥) → 1 ≤ y % (16 * w)
+    pub far-part : (classAndFlags (shape w) x ≡ freeMark c → ⊥) → 1 ≤ y % (16 * w)
     far-part = widths (λ w. c < shape w .classes → (classAndFlags (shape w) x ≡ freeMark c → ⊥) → 1 ≤ y % (16 * w)) (omega (arith, fits, e)) (omega (arith, fits, e)) w wd few
 
     pub next-near : classAndFlags (shape w) x ≡ freeMark c → y / (16 * w) + y % (16 * w) * 2 ^ 57 ≡ offsetBit w (nextIn (shape w) x)
@@ -124,6 +132,14 @@ module _ {w : ℕ} (wd : Width w) where
 
     pub next-far : (classAndFlags (shape w) x ≡ freeMark c → ⊥) → 2 ^ 32 ≤ y / (16 * w) + y % (16 * w) * 2 ^ 57
     next-far f = sum-far (y / (16 * w)) (y % (16 * w)) (far-part f)
+
+  pub no-flags : classAndFlags (shape w) 0 ≡ 0
+  no-flags = widths (λ w. classAndFlags (shape w) 0 ≡ 0) (omega arith) (omega arith) w wd
+
+  -- two numbers or-ed: they have no class and flags exactly where neither has
+  pub or-low : (a b : ℕ) → (classAndFlags (shape w) (bitOr a b) ≡ 0 → (classAndFlags (shape w) a ≡ 0) × (classAndFlags (shape w) b ≡ 0)) × ((classAndFlags (shape w) a ≡ 0) × (classAndFlags (shape w) b ≡ 0) → classAndFlags (shape w) (bitOr a b) ≡ 0)
+  or-low a b =
+      widths (λ w. (classAndFlags (shape w) (bitOr a b) ≡ 0 → (classAndFlags (shape w) a ≡ 0) × (classAndFlags (shape w) b ≡ 0)) × ((classAndFlags (shape w) a ≡ 0) × (classAndFlags (shape w) b ≡ 0) → classAndFlags (shape w) (bitOr a b) ≡ 0)) (or-parts a b 6) (or-parts a b 7) w wd
 
   -- the tag of the index page's block says a page
   pub index-kind : kindIn (indexTag (shape w)) ≡ freeKind → ⊥
@@ -136,3 +152,35 @@ module _ {w : ℕ} (wd : Width w) where
       go : Dec (prev ≡ 0) → linkOf (shape w) prev + w ≤ n
       go (yes e) = rw (eq-eqb prev 0 e) (omega arith)
       go (no e) = rw (ne-eqb prev 0 e) (omega arith)
+
+  -- the data area is a whole number of eights of bytes
+  pub start-stops : (end : ℕ) → shortest (shape w) ≤ end → end % 8 ≡ 0 → start (shape w) + 8 * ((end - start (shape w)) / 8) ≡ end
+  start-stops end = widths (λ w. shortest (shape w) ≤ end → end % 8 ≡ 0 → start (shape w) + 8 * ((end - start (shape w)) / 8) ≡ end) (omega arith) (omega arith) w wd
+
+-- y is the difference of a tag t and a kind: what follows of its parts, and of the size that is made of them
+pub eights-fit : (y : ℕ) → y < 2 ^ 64 → (y % 8 * 2 ^ 61 < 2 ^ 64) × (y / 8 + y % 8 * 2 ^ 61 < 2 ^ 64)
+eights-fit y h = sum (y / 8) (y % 8) (omega arith) (omega arith)
+  where
+    sum : (q r : ℕ) → q < 2 ^ 61 → r < 8 → (r * 2 ^ 61 < 2 ^ 64) × (q + r * 2 ^ 61 < 2 ^ 64)
+    sum q r h k = omega arith
+
+module _ (t y kind : ℕ) (few : kind < 8) (fits : y < 2 ^ 64) (e : (y + kind) % 2 ^ 64 ≡ t) where
+  same-kind : kindIn t ≡ kind → (y % 8 ≡ 0) × (8 * (y / 8) ≡ sizeIn t)
+  same-kind f = omega (arith, few, fits, e, f)
+
+  other-kind : (kindIn t ≡ kind → ⊥) → 1 ≤ y % 8
+  other-kind f = omega (arith, few, fits, e, f)
+
+  pub eights-near : kindIn t ≡ kind → 8 * (y / 8 + y % 8 * 2 ^ 61) ≡ sizeIn t
+  eights-near f =
+      let z = same-kind f in
+      near (y / 8) (y % 8) (sizeIn t) (z .0) (z .1)
+    where
+      near : (q r s : ℕ) → r ≡ 0 → 8 * q ≡ s → 8 * (q + r * 2 ^ 61) ≡ s
+      near q r s a b = rw a (omega (arith, b))
+
+  pub eights-far : (kindIn t ≡ kind → ⊥) → 2 ^ 61 ≤ y / 8 + y % 8 * 2 ^ 61
+  eights-far f = far (y / 8) (y % 8) (other-kind f)
+    where
+      far : (q r : ℕ) → 1 ≤ r → 2 ^ 61 ≤ q + r * 2 ^ 61
+      far q r h = omega arith

@@ -9,6 +9,7 @@ use Rattle.sound.specs.Tells.{Tells}
 use Rattle.sound.specs.declared.map.Marks.the-variants.{Unsound, Count}
 use Rattle.sound.specs.declared.blocks.Stand.{Stand}
 use Rattle.sound.specs.declared.blocks.Walk.the-variants.{Unsound as Wrong, Beyond, On}
+use Rattle.sound.specs.declared.blocks.Passed.the-variants.{Unsound as None, To}
 use Rattle.sound.specs.declared.Filling.the-variants.{Told, Beyond as Further}
 
 pub clash : (r : Bool) → r ≡ false → r ≡ true → ⊥
@@ -53,6 +54,12 @@ beyond-same e = cc
 
 pub on-same : {s x : Stand} → On s ≡ On x → s ≡ x
 on-same e = cc
+
+pub none-to : {s : Stand} → None ≡ To s → ⊥
+none-to {s} e = let z : _≡_ {A = ℕ} 0 1 = cc in omega arith
+
+pub to-same : {s x : Stand} → To s ≡ To x → s ≡ x
+to-same e = cc
 
 -- and so are the answers as far as a map goes
 pub told-same : {x y : Bool} → Told x ≡ Told y → x ≡ y

@@ -1,9 +1,10 @@
 -- Laws of a walk over the blocks: what the tests at a tag tell of a run, and a run made longer by the block before it.
-use Prim.Native.Nat.{ℕ, _+_, _-_, _%_, _≤_, _<_}
+use Prim.Native.Nat.{ℕ, _+_, _-_, _*_, _/_, _%_, _^_, _≤_, _<_}
 use mathlib.Core.Path.{_≡_, refl, sym, ap, subst, _∙_}
 use mathlib.Core.Bool.{Bool, true, false}
 use mathlib.Core.List.{List, [], _∷_}
 use native.Mathlib.Omega.{arith}
+use native.Mathlib.Decide.{ℕ-discrete}
 use lib.ListN.{length}
 use lib.Dec.{eqb}
 use borrow.Author.Tests.{eq-eqb, ne-eqb}
@@ -12,8 +13,8 @@ use Rattle.words.specs.Word.{wordAt}
 use Rattle.words.specs.Bits.{bitAt}
 use Rattle.words.proofs.BitLaws.{beyond-clear}
 use Rattle.words.proofs.WidthLaws.{widths}
-use Rattle.model.specs.Shape.{shape, start, leastFree, endOf}
-use Rattle.model.specs.Parts.{freeKind, sizeIn, kindIn, tagOf, firstFreeAt, farTagAt, nextAt, previousAt, indexTag}
+use Rattle.model.specs.Shape.{shape, start, leastFree, leastVariable, endOf}
+use Rattle.model.specs.Parts.{freeKind, variableKind, pageKind, sizeIn, kindIn, tagOf, firstFreeAt, farTagAt, nextAt, previousAt, indexTag}
 use Rattle.model.specs.Layout.{Use, variable, page, Block, free, used, useSize, sizeOf, ends, firstFree}
 use Rattle.model.specs.Sound.{Allowed, AllowedUse, AllAllowed, Apart}
 use Rattle.model.specs.inner.Walks.{flag}
@@ -23,14 +24,16 @@ use Rattle.model.proofs.Sizes.{start-eight}
 use Rattle.model.proofs.walks.Standing.{sizes}
 use Rattle.sound.specs.Onward.{useKind, UseAt, Reads, Onward, freeIn, freeItems}
 use Rattle.sound.specs.Maps.{mapEnd, largeMap}
-use Rattle.sound.specs.Told.{Fixed, Sizes, MapSize, Marking, UseMarked, BlocksMarked, touches, expected, Stood, StoodAt, WalkTold, FillTold}
+use Rattle.sound.specs.Told.{Fixed, Sizes, SizeIf, Marking, UseMarked, BlocksMarked, touches, expected, WalkRoom, WalkRoomAt, Stood, StoodAt, Paused, Halted, PassTold, WalkTold, FillTold}
 use Rattle.sound.specs.Tells.{Tells}
 use Rattle.sound.specs.Lists.{Filled}
 use Rattle.sound.specs.declared.blocks.Stand.{Stand}
 use Rattle.sound.specs.declared.blocks.Walk.the-variants.{Unsound, Beyond, On}
+use Rattle.sound.specs.declared.blocks.Passed.the-variants.{Unsound as None, To}
 use Rattle.sound.specs.declared.Filling.the-variants.{Told, Beyond as Further}
-use Rattle.sound.proofs.Tellings.{wrong-beyond, wrong-on, on-beyond, beyond-same, on-same, told-same, told-beyond, further-same}
-use Rattle.sound.proofs.Places.{index-kind}
+use Rattle.sound.proofs.Tellings.{wrong-beyond, wrong-on, on-beyond, beyond-same, on-same, none-to, to-same, told-same, told-beyond, further-same}
+use Rattle.sound.proofs.Places.{index-kind, start-stops}
+use Rattle.sound.proofs.PageLaws.{other-in, variable-in}
 use Rattle.sound.proofs.MapLaws.{adds-none, adds-append, adds-same, marked-none, marking-on, marking-same}
 
 pub use-size : {w : ℕ} → Width w → (u : Use) → AllowedUse (shape w) u → (leastFree (shape w) ≤ useSize (shape w) u) × (useSize (shape w) u % 8 ≡ 0)
@@ -141,111 +144,155 @@ module _ {w : ℕ} (wd : Width w) {b : List ℕ} {end p prev : ℕ} {touching : 
 touches-is : (w : ℕ) (b : List ℕ) (p s t : ℕ) → wordAt w b (farTagAt (shape w) p s) ≡ t → touches w b (p + s) ≡ eqb (kindIn t) freeKind
 touches-is w b p s t e = ap (λ (x : ℕ). eqb (kindIn x) freeKind) e
 
+-- the size that a tag says: of this kind where it is within what is left, and beyond that where it is not
+pub size-near : {t kind k left : ℕ} → SizeIf t kind k → k ≤ left → left < 2 ^ 61 → (kindIn t ≡ kind) × (8 * k ≡ sizeIn t)
+size-near {t} {kind} {k} i h l = go (ℕ-discrete (kindIn t) kind)
+  where
+    go : Dec (kindIn t ≡ kind) → (kindIn t ≡ kind) × (8 * k ≡ sizeIn t)
+    go (yes e) = (e, i .near e)
+    go (no e) = absurd (omega (arith, i .far e))
+
+pub size-beyond : {t kind k left : ℕ} → SizeIf t kind k → left < k → kindIn t ≡ kind → 8 * left < sizeIn t
+size-beyond i h e = omega (arith, i .near e)
+
+-- what a block that a walk passes has, in eights of bytes
+module _ {w : ℕ} {b : List ℕ} {end p prev t : ℕ} {touching : Bool} {link : ℕ} (y : BlockPassed w b end p prev touching link t (sizeIn t)) (k : ℕ) (ek : 8 * k ≡ sizeIn t) where
+  pub passed-tag : wordAt w b (farTagAt (shape w) p (8 * k)) ≡ t
+  passed-tag = rw ek (y .tag)
+
+  pub passed-variable : kindIn t ≡ variableKind → leastVariable (shape w) ≤ 8 * k
+  passed-variable e = rw ek (variable-in b p (sizeIn t) (rw e at (y .when-used (λ a. omega (arith, e, a)) .0)))
+
+  pub passed-free : kindIn t ≡ freeKind → (leastFree (shape w) ≤ 8 * k) × (link ≡ p) × (touching ≡ false) × (wordAt w b (previousAt (shape w) p (8 * k)) ≡ prev)
+  passed-free e = let z = y .when-free e in rw ek (y .big, z .1, z .0, z .2)
+
 -- answers of a walk
 pub walk-wrong : {w : ℕ} {b : List ℕ} {end : ℕ} {P : Stand → Type 0} {m′ : List ℕ} → (Onward w b end (start (shape w)) 0 false (wordAt w b (firstFreeAt (shape w))) → ⊥) → WalkTold w b end P Unsound m′
 walk-wrong f = record { is-no = λ _. f; is-beyond = λ s y. absurd (wrong-beyond y); is-on = λ s y. absurd (wrong-on y) }
 
-pub walk-beyond : {w : ℕ} {b : List ℕ} {end : ℕ} {P : Stand → Type 0} {m′ : List ℕ} (s : Stand) → StoodAt w b end s m′ → mapEnd w (length m′) < end → WalkTold w b end P (Beyond s) m′
-walk-beyond {w} {b} {end} {P} {m′} s v l = record { is-no = λ y. absurd (wrong-beyond (sym y)); is-beyond = λ x y. subst (λ (z : Stand). StoodAt w b end z m′ × (mapEnd w (length m′) < end)) (beyond-same y) (v, l); is-on = λ x y. absurd (on-beyond (sym y)) }
+pub walk-beyond : {w : ℕ} {b : List ℕ} {end : ℕ} {P : Stand → Type 0} {m′ : List ℕ} (s : Stand) → Halted w b end s m′ → mapEnd w (length m′) < end → WalkTold w b end P (Beyond s) m′
+walk-beyond {w} {b} {end} {P} {m′} s v l = record { is-no = λ y. absurd (wrong-beyond (sym y)); is-beyond = λ x y. subst (λ (z : Stand). Halted w b end z m′ × (mapEnd w (length m′) < end)) (beyond-same y) (v, l); is-on = λ x y. absurd (on-beyond (sym y)) }
 
 pub walk-on : {w : ℕ} {b : List ℕ} {end : ℕ} {P : Stand → Type 0} {m′ : List ℕ} (s : Stand) → StoodAt w b end s m′ → P s → WalkTold w b end P (On s) m′
 walk-on {w} {b} {end} {P} {m′} s v l = record { is-no = λ y. absurd (wrong-on (sym y)); is-beyond = λ x y. absurd (on-beyond y); is-on = λ x y. subst (λ (z : Stand). StoodAt w b end z m′ × P z) (on-same y) (v, l) }
 
-pub walk-to : {w : ℕ} {b : List ℕ} {end : ℕ} {P : Stand → Type 0} {m′ : List ℕ} {p left prev n : ℕ} (s : Stand) → (s .at .0 ≡ p) × (s .left ≡ left) × (s .prev .0 ≡ prev) × (s .marks ≡ n) → Stood w b end p left prev n m′ → P s → WalkTold w b end P (On s) m′
-walk-to s e v = walk-on s (rw (e .0, e .1, e .2, e .3) v)
+pub pass-wrong : {w : ℕ} {b : List ℕ} {end : ℕ} {P : Stand → Type 0} {m : List ℕ} → (Onward w b end (start (shape w)) 0 false (wordAt w b (firstFreeAt (shape w))) → ⊥) → PassTold w b end P None m
+pass-wrong f = record { is-no = λ _. f; is-to = λ s y. absurd (none-to y) }
 
--- before the first block
-pub stood-start : {w : ℕ} {b m : List ℕ} {end : ℕ} → Sizes w b end → Fixed w b end → MapSize (length m) → ((j : ℕ) → bitAt m j ≡ 0) → Stood w b end (start (shape w)) (end - start (shape w)) 0 0 m
-stood-start {w} {b} {m} {end} z f k e =
+pub pass-to : {w : ℕ} {b : List ℕ} {end : ℕ} {P : Stand → Type 0} {m : List ℕ} (s : Stand) → StoodAt w b end s m → P s → PassTold w b end P (To s) m
+pass-to {w} {b} {end} {P} {m} s v l = record { is-no = λ y. absurd (none-to (sym y)); is-to = λ x y. subst (λ (z : Stand). StoodAt w b end z m × P z) (to-same y) (v, l) }
+
+-- a place by its parts
+abbrev pub Parts : Stand → ℕ → ℕ → ℕ → ℕ → ℕ → Type 0
+Parts s p left prev link n = (s .at .0 ≡ p) × (s .left ≡ left) × (s .prev .0 ≡ prev) × (s .link .0 ≡ link) × (s .marks ≡ n)
+
+pub room-at : {w : ℕ} {b : List ℕ} {end p left prev link n : ℕ} (s : Stand) → Parts s p left prev link n → WalkRoom w b end p left prev link → WalkRoomAt w b end s
+room-at s e v = rw (e .0, e .1, e .2, e .3) v
+
+pub stood-at : {w : ℕ} {b m : List ℕ} {end p left prev link n : ℕ} (s : Stand) → Parts s p left prev link n → Stood w b end p left prev link n m → StoodAt w b end s m
+stood-at s e v = rw (e .0, e .1, e .2, e .3, e .4) v
+
+-- before the first block, where the map has no mark
+pub stood-start : {w : ℕ} {b : List ℕ} {end : ℕ} → Sizes w b end → Fixed w b end → Stood w b end (start (shape w)) ((end - start (shape w)) / 8) 0 (firstFreeAt (shape w)) 0 []
+stood-start {w} {b} {end} z f =
     record {
-      sizes = z;
-      map = k;
+      room = record { sizes = z; low = omega arith; stops = start-stops (z .width) end (z .low) (z .eight); eight = start-eight (z .width); before = omega arith; linked = refl };
       ahead = λ r. rw alone r;
-      back = λ m′ r. unmarked m′ (rw alone at r);
-      low = omega arith;
-      stops = omega (arith, z .low);
-      eight = start-eight (z .width);
-      before = omega arith;
-      marking = record { marked = marked-none e; clear = record { from = λ j _. e j }; few = omega arith };
+      back = λ m′ r. rw alone at r;
+      marking = record { marked = marked-none (λ j. beyond-clear [] j (omega arith)); clear = record { from = λ j _. beyond-clear [] j (omega arith) }; few = omega arith };
     }
   where
     alone : touches w b (start (shape w)) ≡ false
     alone = ap (λ (x : ℕ). eqb (kindIn x) freeKind) (f .high-tag) ∙ ne-eqb (kindIn (indexTag (shape w))) freeKind (index-kind (z .width))
 
-    unmarked : (m′ : List ℕ) → BlocksMarked w b end (start (shape w)) 0 false (wordAt w b (firstFreeAt (shape w))) m m′ → BlocksMarked w b end (start (shape w)) 0 false (wordAt w b (firstFreeAt (shape w))) [] m′
-    unmarked m′ r = record { onward = r .onward; adds = adds-same (λ j. e j ∙ sym (beyond-clear [] j (omega arith))) (r .adds) }
-
 -- with another map of the same bits
-pub stood-same : {w : ℕ} {b m m′ : List ℕ} {end p left prev n : ℕ} → ((j : ℕ) → bitAt m′ j ≡ bitAt m j) → MapSize (length m′) → Stood w b end p left prev n m → Stood w b end p left prev n m′
-stood-same e k v = record { sizes = v .sizes; map = k; ahead = v .ahead; back = λ m″ r. v .back m″ (record { onward = r .onward; adds = adds-same e (r .adds) }); low = v .low; stops = v .stops; eight = v .eight; before = v .before; marking = marking-same e (v .marking) }
+pub halted-same : {w : ℕ} {b m m′ : List ℕ} {end : ℕ} {s : Stand} → ((j : ℕ) → bitAt m′ j ≡ bitAt m j) → Halted w b end s m → Halted w b end s m′
+halted-same e v = record { stood = record { room = v .stood .room; ahead = v .stood .ahead; back = λ m″ r. v .stood .back m″ (record { onward = r .onward; adds = adds-same e (r .adds) }); marking = marking-same e (v .stood .marking) }; paused = v .paused }
 
-module _ {w : ℕ} {b m : List ℕ} {end p left prev n : ℕ} (v : Stood w b end p left prev n m) where
+-- what a walk may read stays so, past a block
+module _ {w : ℕ} {b : List ℕ} {end p left prev link : ℕ} (v : WalkRoom w b end p left prev link) (k : ℕ) (within : k ≤ left) where
+  pub room-used : WalkRoom w b end (p + 8 * k) (left - k) prev link
+  room-used = record { sizes = v .sizes; low = omega (arith, v .low); stops = omega (arith, v .stops); eight = omega (arith, v .eight); before = omega (arith, v .before); linked = v .linked }
+
+  pub room-free : leastFree (shape w) ≤ 8 * k → WalkRoom w b end (p + 8 * k) (left - k) p (nextAt (shape w) p)
+  room-free big = record { sizes = v .sizes; low = omega (arith, v .low); stops = omega (arith, v .stops); eight = omega (arith, v .eight); before = omega arith; linked = sym (rw (ne-eqb p 0 (λ z. omega (arith, v .low))) refl) }
+
+module _ {w : ℕ} {b m : List ℕ} {end p left prev link n : ℕ} (v : Stood w b end p left prev link n m) where
   wd : Width w
-  wd = v .sizes .width
+  wd = v .room .sizes .width
+
+  named : {x : ℕ} → x ≡ wordAt w b link → x ≡ expected w b prev
+  named e = e ∙ ap (λ (q : ℕ). wordAt w b q) (v .room .linked)
 
   -- at the end
-  pub stood-end : left ≡ 0 → expected w b prev ≡ 0 → BlocksMarked w b end (start (shape w)) 0 false (wordAt w b (firstFreeAt (shape w))) [] m
-  stood-end h e = v .back m (stop-out wd m (omega (arith, v .stops)) e)
+  pub stood-end : left ≡ 0 → wordAt w b link ≡ 0 → BlocksMarked w b end (start (shape w)) 0 false (wordAt w b (firstFreeAt (shape w))) [] m
+  stood-end h e = v .back m (stop-out wd m (omega (arith, v .room .stops)) (sym (named (sym e))))
 
-  pub stood-open : left ≡ 0 → (expected w b prev ≡ 0 → ⊥) → Onward w b end (start (shape w)) 0 false (wordAt w b (firstFreeAt (shape w))) → ⊥
-  stood-open h e r = e (stop-in wd (omega (arith, v .stops)) (v .ahead r))
+  pub stood-open : left ≡ 0 → (wordAt w b link ≡ 0 → ⊥) → Onward w b end (start (shape w)) 0 false (wordAt w b (firstFreeAt (shape w))) → ⊥
+  stood-open h e r = e (named refl ∙ stop-in wd (omega (arith, v .room .stops)) (v .ahead r))
 
-  module _ (h : 0 < left) (t s : ℕ) (et : t ≡ wordAt w b p) (es : s ≡ sizeIn t) where
-    here : Onward w b end (start (shape w)) 0 false (wordAt w b (firstFreeAt (shape w))) → BlockPassed w b end p prev (touches w b p) (expected w b prev) t s
-    here r = passed wd t s et es (omega (arith, v .stops)) (v .ahead r)
+  module _ (h : 0 < left) (t : ℕ) (et : t ≡ wordAt w b p) where
+    here : Onward w b end (start (shape w)) 0 false (wordAt w b (firstFreeAt (shape w))) → BlockPassed w b end p prev (touches w b p) (expected w b prev) t (sizeIn t)
+    here r = passed wd t (sizeIn t) et refl (omega (arith, v .room .stops)) (v .ahead r)
 
     -- a test that failed
-    pub stood-no : {P : Stand → Type 0} {m′ : List ℕ} → (BlockPassed w b end p prev (touches w b p) (expected w b prev) t s → ⊥) → WalkTold w b end P Unsound m′
-    stood-no f = walk-wrong (λ r. f (here r))
+    pub stood-no : (BlockPassed w b end p prev (touches w b p) (expected w b prev) t (sizeIn t) → ⊥) → Onward w b end (start (shape w)) 0 false (wordAt w b (firstFreeAt (shape w))) → ⊥
+    stood-no f r = f (here r)
 
-    module _ (within : s ≤ left) (tag : wordAt w b (farTagAt (shape w) p s) ≡ t) where
-      pub stood-free : kindIn t ≡ freeKind → leastFree (shape w) ≤ s → expected w b prev ≡ p → touches w b p ≡ false → wordAt w b (previousAt (shape w) p s) ≡ prev → Stood w b end (p + s) (left - s) p n m
+    -- a tag that says no page within what is left, where the walk has halted
+    pub stood-out : Paused w b p left → (kindIn t ≡ pageKind → 8 * left < sizeIn t) → Onward w b end (start (shape w)) 0 false (wordAt w b (firstFreeAt (shape w))) → ⊥
+    stood-out q f = stood-no (λ y. go y (ℕ-discrete (kindIn t) freeKind) (ℕ-discrete (kindIn t) variableKind) (ℕ-discrete (kindIn t) pageKind))
+      where
+        go : BlockPassed w b end p prev (touches w b p) (expected w b prev) t (sizeIn t) → Dec (kindIn t ≡ freeKind) → Dec (kindIn t ≡ variableKind) → Dec (kindIn t ≡ pageKind) → ⊥
+        go y (yes e) d c = omega (arith, y .inside, v .room .stops, rw (← et) at (q .free (rw et at e)))
+        go y (no n) (yes e) c = omega (arith, y .inside, v .room .stops, rw (← et) at (q .variable (rw et at e)))
+        go y (no n) (no d) (yes e) = omega (arith, y .inside, v .room .stops, f e)
+        go y (no n) (no d) (no c) = other-in b p (sizeIn t) (kindIn t) d c (y .when-used n .0)
+
+    module _ (k : ℕ) (ek : 8 * k ≡ sizeIn t) (within : k ≤ left) (tag : wordAt w b (farTagAt (shape w) p (8 * k)) ≡ t) where
+      pub stood-free : kindIn t ≡ freeKind → leastFree (shape w) ≤ 8 * k → wordAt w b link ≡ p → touches w b p ≡ false → wordAt w b (previousAt (shape w) p (8 * k)) ≡ prev → Stood w b end (p + 8 * k) (left - k) p (nextAt (shape w) p) n m
       stood-free a big linked alone prior =
-          let f : touches w b (p + s) ≡ true = touches-is w b p s t tag ∙ eq-eqb (kindIn t) freeKind a in
-          let g : linkOf (shape w) p ≡ nextAt (shape w) p = rw (ne-eqb p 0 (λ z. omega (arith, v .low))) refl in
+          let f : touches w b (p + 8 * k) ≡ true = touches-is w b p (8 * k) t tag ∙ eq-eqb (kindIn t) freeKind a in
+          let g : linkOf (shape w) p ≡ nextAt (shape w) p = rw (ne-eqb p 0 (λ z. omega (arith, v .room .low))) refl in
           record {
-            sizes = v .sizes;
-            map = v .map;
-            ahead = λ r. rw (f, g) (here r .when-free a .3);
-            back = λ m′ walk. v .back m′ (free-back wd t s et es a big tag alone linked prior (rw (f, g) at walk));
-            low = omega (arith, v .low);
-            stops = omega (arith, v .stops);
-            eight = omega (arith, v .eight);
-            before = omega arith;
+            room = room-free (v .room) k within big;
+            ahead = λ r. rw (f, g, ek) (here r .when-free a .3);
+            back = λ m′ walk. v .back m′ (free-back wd t (8 * k) et ek a big tag alone (sym (named (sym linked))) prior (rw (f, g) at walk));
             marking = marking-on (omega arith) (v .marking);
           }
 
-    -- a block in use of this kind: it is none, or it is marked
-    module _ (kind : ℕ) (ek : kindIn t ≡ kind) (in-use : kind ≡ freeKind → ⊥) where
-      pub stood-wrong : {P : Stand → Type 0} {m′ : List ℕ} → (UseAt w b p s kind → ⊥) → WalkTold w b end P Unsound m′
-      stood-wrong f = stood-no (λ k. f (rw ek at (k .when-used (λ e. in-use (sym ek ∙ e)) .0)))
-
-      pub stood-used : s ≤ left → wordAt w b (farTagAt (shape w) p s) ≡ t → (m₁ : List ℕ) (r : ℕ) → length m₁ ≡ length m → UseMarked w b p s kind m m₁ → Marking w m₁ r (p + s) → Stood w b end (p + s) (left - s) prev r m₁
-      stood-used within tag m₁ r el u k =
-          let f : touches w b (p + s) ≡ false = touches-is w b p s t tag ∙ ne-eqb (kindIn t) freeKind (λ e. in-use (sym ek ∙ e)) in
+      -- a block in use of this kind, whose items are marked
+      pub stood-used : (kind : ℕ) → kindIn t ≡ kind → (kind ≡ freeKind → ⊥) → (m₁ : List ℕ) (r : ℕ) → UseMarked w b p (8 * k) kind m m₁ → Marking w m₁ r (p + 8 * k) → Stood w b end (p + 8 * k) (left - k) prev link r m₁
+      stood-used kind e in-use m₁ r u z =
+          let f : touches w b (p + 8 * k) ≡ false = touches-is w b p (8 * k) t tag ∙ ne-eqb (kindIn t) freeKind (λ y. in-use (sym e ∙ y)) in
           record {
-            sizes = v .sizes;
-            map = rw el (v .map);
-            ahead = λ z. rw f (here z .when-used (λ e. in-use (sym ek ∙ e)) .1);
-            back = λ m′ walk. v .back m′ (used-back wd t s et es tag (rw ek u) (rw f at walk));
-            low = omega (arith, v .low);
-            stops = omega (arith, v .stops);
-            eight = omega (arith, v .eight);
-            before = omega (arith, v .before);
-            marking = k;
+            room = room-used (v .room) k within;
+            ahead = λ y. rw (f, ek) (here y .when-used (λ a. in-use (sym e ∙ a)) .1);
+            back = λ m′ walk. v .back m′ (used-back wd t (8 * k) et ek tag (rw e u) (rw f at walk));
+            marking = z;
           }
 
--- a walk that has come to s, with a map as long as at first
-pub record Stands (w : ℕ) (b : List ℕ) (end : ℕ) (m₀ m : List ℕ) (s : Stand) : Type 0 where
-  pub stood : StoodAt w b end s m
+    -- a block in use of this kind that is none
+    pub stood-wrong : (k kind : ℕ) → 8 * k ≡ sizeIn t → kindIn t ≡ kind → (kind ≡ freeKind → ⊥) → (UseAt w b p (8 * k) kind → ⊥) → Onward w b end (start (shape w)) 0 false (wordAt w b (firstFreeAt (shape w))) → ⊥
+    stood-wrong k kind ek e in-use f = stood-no (λ y. f (rw (ek, ← e) (y .when-used (λ a. in-use (sym e ∙ a)) .0)))
+
+-- a walk from one place to another, over blocks without items: whatever the map
+pub record Passing (w : ℕ) (b : List ℕ) (end : ℕ) (from s : Stand) : Type 0 where
+  pub room : WalkRoomAt w b end s
+  pub less : s .left ≤ from .left
+  pub onto : (m : List ℕ) → StoodAt w b end from m → StoodAt w b end s m
+
+-- a walk that has halted at s, with a map as long as at first
+pub record Halts (w : ℕ) (b : List ℕ) (end : ℕ) (m₀ m : List ℕ) (s : Stand) : Type 0 where
+  pub halted : Halted w b end s m
   pub size : length m ≡ length m₀
 
 -- answers as far as a map goes
 pub fill-told : {w : ℕ} {b : List ℕ} {x : Bool} {m′ : List ℕ} → Tells x (Filled w b (endOf (length b))) → FillTold w b (Told x) m′
 fill-told {w} {b} t = record { is-told = λ y e. subst (λ (z : Bool). Tells z (Filled w b (endOf (length b)))) (told-same e) t; is-beyond = λ s e. absurd (told-beyond e) }
 
-pub fill-beyond : {w : ℕ} {b m′ : List ℕ} (s : Stand) → StoodAt w b (endOf (length b)) s m′ → mapEnd w (length m′) < endOf (length b) → FillTold w b (Further s) m′
-fill-beyond {w} {b} {m′} s v l = record { is-told = λ y e. absurd (told-beyond (sym e)); is-beyond = λ x e. subst (λ (z : Stand). StoodAt w b (endOf (length b)) z m′ × (mapEnd w (length m′) < endOf (length b))) (further-same e) (v, l) }
+pub fill-beyond : {w : ℕ} {b m′ : List ℕ} (s : Stand) → Halted w b (endOf (length b)) s m′ → mapEnd w (length m′) < endOf (length b) → FillTold w b (Further s) m′
+fill-beyond {w} {b} {m′} s v l = record { is-told = λ y e. absurd (told-beyond (sym e)); is-beyond = λ x e. subst (λ (z : Stand). Halted w b (endOf (length b)) z m′ × (mapEnd w (length m′) < endOf (length b))) (further-same e) (v, l) }
 
 -- a large map is enough for every heap
 pub large-enough : {w : ℕ} → Width w → (b : List ℕ) (n : ℕ) → n ≡ largeMap → length b ≤ shape w .most → mapEnd w n < endOf (length b) → ⊥

@@ -9,7 +9,7 @@ use Rattle.words.specs.Width.{Width}
 use Rattle.words.specs.Word.{wordAt}
 use Rattle.words.specs.Bits.{bitAt}
 use Rattle.model.specs.Shape.{shape, index, start, shortest, itemSize, endOf}
-use Rattle.model.specs.Parts.{magicBytes, freeKind, pageKind, kindIn, freeMark, classAndFlags, nextIn, dataAt, indexAt, firstFreeAt, endAt, indexTag, indexTagAt, indexFarTagAt, headAt}
+use Rattle.model.specs.Parts.{magicBytes, freeKind, variableKind, pageKind, kindIn, sizeIn, freeMark, classAndFlags, nextIn, dataAt, indexAt, firstFreeAt, endAt, indexTag, indexTagAt, indexFarTagAt, headAt}
 use Rattle.model.specs.Sound.{idleSlots}
 use Rattle.model.specs.inner.Links.{linkOf}
 use Rattle.sound.specs.Tells.{Tells}
@@ -21,6 +21,8 @@ use Rattle.sound.specs.declared.map.Marks.the-variants.{Unsound, Count}
 use Rattle.sound.specs.declared.blocks.Stand.{Stand}
 use Rattle.sound.specs.declared.blocks.Walk.{Walk}
 use Rattle.sound.specs.declared.blocks.Walk.the-variants.{Unsound as Wrong, Beyond, On}
+use Rattle.sound.specs.declared.blocks.Passed.{Passed}
+use Rattle.sound.specs.declared.blocks.Passed.the-variants.{Unsound as None, To}
 use Rattle.sound.specs.declared.Filling.{Filling}
 use Rattle.sound.specs.declared.Filling.the-variants.{Told, Beyond as Further}
 
@@ -104,35 +106,71 @@ touches w b p = eqb (kindIn (wordAt w b (p - w))) freeKind
 abbrev pub expected : ℕ → List ℕ → ℕ → ℕ
 expected w b prev = wordAt w b (linkOf (shape w) prev)
 
--- a walk from the start has come to p with `left` bytes to go, the last free block at prev, and n marks in the map m: what is ahead of it is there exactly where the whole is
-pub record Stood (w : ℕ) (b : List ℕ) (end p left prev n : ℕ) (m : List ℕ) : Type 0 where
-  pub sizes : Sizes w b end
-  pub map : MapSize (length m)
-  pub ahead : Onward w b end (start (shape w)) 0 false (wordAt w b (firstFreeAt (shape w))) → Onward w b end p prev (touches w b p) (expected w b prev)
-  pub back : (m′ : List ℕ) → BlocksMarked w b end p prev (touches w b p) (expected w b prev) m m′ → BlocksMarked w b end (start (shape w)) 0 false (wordAt w b (firstFreeAt (shape w))) [] m′
+-- the size, in eights of bytes, that the tag t says where it says this kind, or else more than any heap has
+pub record SizeIf (t kind r : ℕ) : Type 0 where
+  pub near : kindIn t ≡ kind → 8 * r ≡ sizeIn t
+  pub far : (kindIn t ≡ kind → ⊥) → 2 ^ 61 ≤ r
+
+-- room in n bytes for a free block of size s at p, and for the link that names it
+pub record FreeSpot (w n p s link : ℕ) : Type 0 where
+  pub width : Width w
   pub low : start (shape w) ≤ p
-  pub stops : p + left ≡ end
+  pub inside : p + s ≤ n
+  pub linked : link + w ≤ n
+
+-- a walk stands at p, with `left` eights of bytes to go, the last free block at prev, and the link to the next one at `link`
+pub record WalkRoom (w : ℕ) (b : List ℕ) (end p left prev link : ℕ) : Type 0 where
+  pub sizes : Sizes w b end
+  pub low : start (shape w) ≤ p
+  pub stops : p + 8 * left ≡ end
   pub eight : p % 8 ≡ 0
   pub before : prev + 2 * w ≤ p
+  pub linked : link ≡ linkOf (shape w) prev
+
+-- it has come there from the start, with n marks in the map m: what is ahead of it is there exactly where the whole is
+pub record Stood (w : ℕ) (b : List ℕ) (end p left prev link n : ℕ) (m : List ℕ) : Type 0 where
+  pub room : WalkRoom w b end p left prev link
+  pub ahead : Onward w b end (start (shape w)) 0 false (wordAt w b (firstFreeAt (shape w))) → Onward w b end p prev (touches w b p) (expected w b prev)
+  pub back : (m′ : List ℕ) → BlocksMarked w b end p prev (touches w b p) (expected w b prev) m m′ → BlocksMarked w b end (start (shape w)) 0 false (wordAt w b (firstFreeAt (shape w))) [] m′
   pub marking : Marking w m n p
 
-abbrev pub StoodAt : ℕ → List ℕ → ℕ → Stand → List ℕ → Type 0
-StoodAt w b end s m = Stood w b end (s .at .0) (s .left) (s .prev .0) (s .marks) m
+-- the block at p is no variable and no free one within `left` eights of bytes
+pub record Paused (w : ℕ) (b : List ℕ) (p left : ℕ) : Type 0 where
+  pub variable : kindIn (wordAt w b p) ≡ variableKind → 8 * left < sizeIn (wordAt w b p)
+  pub free : kindIn (wordAt w b p) ≡ freeKind → 8 * left < sizeIn (wordAt w b p)
 
--- where it ends
+-- the same of a place in a walk: where the walk ends; and that it has halted there, at the end or at such a block
 abbrev pub endFrom : Stand → ℕ
-endFrom s = s .at .0 + s .left
+endFrom s = s .at .0 + 8 * s .left
+
+abbrev pub WalkRoomAt : ℕ → List ℕ → ℕ → Stand → Type 0
+WalkRoomAt w b end s = WalkRoom w b end (s .at .0) (s .left) (s .prev .0) (s .link .0)
+
+abbrev pub StoodAt : ℕ → List ℕ → ℕ → Stand → List ℕ → Type 0
+StoodAt w b end s m = Stood w b end (s .at .0) (s .left) (s .prev .0) (s .link .0) (s .marks) m
+
+abbrev pub HaltsIn : ℕ → List ℕ → ℕ → Stand → Type 0
+HaltsIn w b left s = (0 < s .left → Paused w b (s .at .0) (s .left)) × (s .left ≤ left)
+
+pub record Halted (w : ℕ) (b : List ℕ) (end : ℕ) (s : Stand) (m : List ℕ) : Type 0 where
+  pub stood : StoodAt w b end s m
+  pub paused : 0 < s .left → Paused w b (s .at .0) (s .left)
 
 -- a walk's answer; where it has gone on, P holds of where it stands
 pub record WalkTold (w : ℕ) (b : List ℕ) (end : ℕ) (P : Stand → Type 0) (r : Walk) (m′ : List ℕ) : Type 0 where
   pub is-no : r ≡ Wrong → Onward w b end (start (shape w)) 0 false (wordAt w b (firstFreeAt (shape w))) → ⊥
-  pub is-beyond : (s : Stand) → r ≡ Beyond s → StoodAt w b end s m′ × (mapEnd w (length m′) < end)
+  pub is-beyond : (s : Stand) → r ≡ Beyond s → Halted w b end s m′ × (mapEnd w (length m′) < end)
   pub is-on : (s : Stand) → r ≡ On s → StoodAt w b end s m′ × P s
+
+-- the same of a walk over blocks without items, whatever the map
+pub record PassTold (w : ℕ) (b : List ℕ) (end : ℕ) (P : Stand → Type 0) (r : Passed) (m : List ℕ) : Type 0 where
+  pub is-no : r ≡ None → Onward w b end (start (shape w)) 0 false (wordAt w b (firstFreeAt (shape w))) → ⊥
+  pub is-to : (s : Stand) → r ≡ To s → StoodAt w b end s m × P s
 
 -- blocks and lists, as far as a map goes
 pub record FillTold (w : ℕ) (b : List ℕ) (r : Filling) (m′ : List ℕ) : Type 0 where
   pub is-told : (x : Bool) → r ≡ Told x → Tells x (Filled w b (endOf (length b)))
-  pub is-beyond : (s : Stand) → r ≡ Further s → StoodAt w b (endOf (length b)) s m′ × (mapEnd w (length m′) < endOf (length b))
+  pub is-beyond : (s : Stand) → r ≡ Further s → Halted w b (endOf (length b)) s m′ × (mapEnd w (length m′) < endOf (length b))
 
 -- the bit r of the item that the header x names, or, where x is not a free item's of class c, a number beyond every map
 pub record NextBit (w x c r : ℕ) : Type 0 where

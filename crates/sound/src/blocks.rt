@@ -2,7 +2,6 @@
 use crate::map::Marks;
 use crate::map::map_end;
 use crate::pages::mark_page;
-use links::link_at;
 use model::FREE;
 use model::PAGE;
 use model::Position;
@@ -11,25 +10,28 @@ use model::far_tag_at;
 use model::kind_in;
 use model::least_free;
 use model::least_variable;
+use model::next_at;
 use model::previous_at;
-use model::size_in;
+use std::num::wrapping_sub_usize;
 use words::word;
 ghost use mathlib.Core.Path.{_≡_};
 ghost use mathlib.Core.Bool.{false};
-ghost use Prim.Native.Nat.{_+_, _*_, _≤_, _<_};
+ghost use mathlib.Core.List.{List};
+ghost use Prim.Native.Nat.{ℕ, _+_, _-_, _≤_, _<_};
 ghost use lib.ListN.{length};
 ghost use Rattle.words.specs.Width.{Width};
 ghost use Rattle.words.specs.Word.{wordAt};
-ghost use Rattle.model.specs.Shape.{shape, start, leastFree};
+ghost use Rattle.model.specs.Shape.{shape, leastFree, leastVariable};
 ghost use Rattle.model.specs.Parts.{farTagAt, previousAt};
 ghost use Rattle.sound.specs.Tells.{Tells};
-ghost use Rattle.sound.specs.Told.{touches, expected, endFrom, StoodAt, WalkTold};
+ghost use Rattle.sound.specs.Told.{SizeIf, FreeSpot, MapSize, endFrom, touches, WalkRoomAt, StoodAt, Halted, HaltsIn, PassTold, WalkTold};
 
-// Where a walk stands: the bytes that are left to the end, the last free block that it met (0: none), and how many items it has marked.
+// Where a walk stands: how many times 8 bytes are left to the end, the last free block that it met (0: none), where the link to the next one stands, and how many items are marked.
 pub struct Stand {
     pub at: Position,
     pub left: usize,
     pub prev: Position,
+    pub link: Position,
     pub marks: usize,
 }
 
@@ -40,94 +42,149 @@ pub enum Walk {
     On(Stand),
 }
 
-// Whether a block with tag t and size s at p is within the bytes that are left, and has the same tag at its end.
-fn tags_right(w: usize, h: &[u8], p: Position, left: usize, t: usize, s: usize) -> bool
-    requires { ⌜ Width w × (w ≤ p .0) × (p .0 + left ≤ length (now h)) ⌝ }
-    ensures { λ r. ⌜ Tells r ((s ≤ left) × (wordAt w (now (h .entry)) (farTagAt (shape w) (p .0) s) ≡ t)) ⌝ }
-{
-    if left < s {
-        return false;
-    }
-    word(w, h, far_tag_at(w, p, s).0) == t
+// What a walk over blocks without items tells: the heap is not sound, or where it has come to.
+pub enum Passed {
+    Unsound,
+    To(Stand),
 }
 
-// Whether a free block of size s can stand at p behind the free block at prev: it is large enough, touches no free block before it, and the links name it and prev.
-fn links_right(w: usize, h: &[u8], p: Position, s: usize, prev: Position) -> bool
-    requires { ⌜ Width w × (start (shape w) ≤ p .0) × (p .0 + s ≤ length (now h)) × (prev .0 + 2 * w ≤ p .0) ⌝ }
-    ensures { λ r. ⌜ Tells r ((leastFree (shape w) ≤ s) × (expected w (now (h .entry)) (prev .0) ≡ p .0) × (touches w (now (h .entry)) (p .0) ≡ false) × (wordAt w (now (h .entry)) (previousAt (shape w) (p .0) s) ≡ prev .0)) ⌝ }
+// The size that the tag t says, in eights of bytes, where it says this kind. Where it says another, the difference of the kinds becomes the highest bits, so that the answer is more than any heap has: one comparison tells both.
+fn eights(t: usize, kind: usize) -> usize
+    requires { ⌜ kind < 8 ⌝ }
+    ensures { λ r. ⌜ SizeIf t kind r ⌝ }
+{
+    let y = wrapping_sub_usize(t, kind);
+    y / 8 + y % 8 * 2305843009213693952
+}
+
+// The tag right before p: that of the block that ends there.
+fn tag_before(w: usize, h: &[u8], p: Position) -> usize
+    requires { ⌜ Width w × (w ≤ p .0) × (p .0 ≤ length (now h)) ⌝ }
+    ensures { λ r. ⌜ r ≡ wordAt w (now (h .entry)) (p .0 - w) ⌝ }
+{
+    word(w, h, p.0 - w)
+}
+
+// Whether a block of size s that ends at `end`, and begins with the tag t of a variable one, is one: large enough, and with the same tag at its end.
+fn is_variable(w: usize, h: &[u8], end: Position, t: usize, s: usize) -> bool
+    requires { ⌜ Width w × (w ≤ end .0) × (end .0 ≤ length (now h)) ⌝ }
+    ensures { λ r. ⌜ Tells r ((leastVariable (shape w) ≤ s) × (wordAt w (now (h .entry)) (end .0 - w) ≡ t)) ⌝ }
+{
+    if s < least_variable(w) {
+        return false;
+    }
+    tag_before(w, h, end) == t
+}
+
+// Whether a block of size s at p with the tag t of a free one is one: large enough, with the same tag at its end, named by the link, not behind another free block, and with its link back to prev.
+fn is_free(
+    w: usize,
+    h: &[u8],
+    p: Position,
+    t: usize,
+    s: usize,
+    prev: Position,
+    link: Position,
+) -> bool
+    requires { ⌜ FreeSpot w (length (now h)) (p .0) s (link .0) ⌝ }
+    ensures { λ r. ⌜ Tells r ((leastFree (shape w) ≤ s) × (wordAt w (now (h .entry)) (farTagAt (shape w) (p .0) s) ≡ t) × (wordAt w (now (h .entry)) (link .0) ≡ p .0) × (touches w (now (h .entry)) (p .0) ≡ false) × (wordAt w (now (h .entry)) (previousAt (shape w) (p .0) s) ≡ prev .0)) ⌝ }
 {
     if s < least_free(w) {
         return false;
     }
-    if word(w, h, link_at(w, prev).0) != p.0 {
+    if word(w, h, far_tag_at(w, p, s).0) != t {
         return false;
     }
-    if kind_in(word(w, h, p.0 - w)) == FREE {
+    if word(w, h, link.0) != p.0 {
+        return false;
+    }
+    if kind_in(tag_before(w, h, p)) == FREE {
         return false;
     }
     word(w, h, previous_at(w, p, s).0) == prev.0
 }
 
-// Where a walk stands.
-fn stands(at: Position, left: usize, prev: Position, marks: usize) -> Stand
-    ensures { λ r. ⌜ (r .at .0 ≡ at .0) × (r .left ≡ left) × (r .prev .0 ≡ prev .0) × (r .marks ≡ marks) ⌝ }
+// A place in a walk by its parts.
+fn stands(at: Position, left: usize, prev: Position, link: Position, marks: usize) -> Stand
+    ensures { λ r. ⌜ (r .at .0 ≡ at .0) × (r .left ≡ left) × (r .prev .0 ≡ prev .0) × (r .link .0 ≡ link .0) × (r .marks ≡ marks) ⌝ }
 {
     Stand {
         at: at,
         left: left,
         prev: prev,
+        link: link,
         marks: marks,
     }
 }
 
-// Passes the block at which a walk stands, and marks its free items.
-fn pass_block(w: usize, h: &[u8], m: &mut [u64], from: Stand) -> Walk
-    requires { ⌜ StoodAt w (now h) (endFrom from) from (now m) × (0 < from .left) ⌝ }
+// Walks on over variable and free blocks, to the end or to a block that is neither.
+pub fn pass_blocks(w: usize, h: &[u8], from: Stand) -> Passed
+    requires { ⌜ WalkRoomAt w (now h) (endFrom from) from ⌝ }
+    ensures { λ r. ⌜ ((m : List ℕ) → StoodAt w (now (h .entry)) (endFrom from) from m → PassTold w (now (h .entry)) (endFrom from) (HaltsIn w (now (h .entry)) (from .left)) r m) ⌝ }
+{
+    let mut at = from;
+    while at.left != 0 {
+        let p = at.at;
+        let prev = at.prev;
+        let link = at.link;
+        let t = word(w, h, p.0);
+        let k = eights(t, VARIABLE);
+        if k <= at.left {
+            let next = Position(p.0 + 8 * k);
+            if !is_variable(w, h, next, t, 8 * k) {
+                return Passed::Unsound;
+            }
+            at = stands(next, at.left - k, prev, link, at.marks);
+        } else {
+            let k = eights(t, FREE);
+            if at.left < k {
+                return Passed::To(at);
+            }
+            let next = Position(p.0 + 8 * k);
+            if !is_free(w, h, p, t, 8 * k, prev, link) {
+                return Passed::Unsound;
+            }
+            at = stands(next, at.left - k, p, next_at(w, p), at.marks);
+        }
+    }
+    Passed::To(at)
+}
+
+// Passes the page at which a walk has halted, and marks its free items.
+fn pass_page(w: usize, h: &[u8], m: &mut [u64], from: Stand) -> Walk
+    requires { ⌜ Halted w (now h) (endFrom from) from (now m) × MapSize (length (now m)) × (0 < from .left) ⌝ }
     ensures { λ r. ⌜ WalkTold w (now (h .entry)) (endFrom from) (λ s. s .left < from .left) r (now (m .exit)) ⌝ }
 {
     let p = from.at;
     let prev = from.prev;
+    let link = from.link;
     let t = word(w, h, p.0);
-    let s = size_in(t);
-    if !tags_right(w, h, p, from.left, t, s) {
+    let k = eights(t, PAGE);
+    if from.left < k {
         return Walk::Unsound;
     }
+    let s = 8 * k;
     let at = Position(p.0 + s);
-    let left = from.left - s;
-    match kind_in(t) {
-        VARIABLE => {
-            if s < least_variable(w) {
-                return Walk::Unsound;
-            }
-            Walk::On(stands(at, left, prev, from.marks))
-        }
-        PAGE => {
-            if map_end(w, m.len()).0 < at.0 {
-                return Walk::Beyond(from);
-            }
-            let Marks::Count(n) = mark_page(w, h, m, p, s, from.marks) else {
-                return Walk::Unsound;
-            };
-            Walk::On(stands(at, left, prev, n))
-        }
-        FREE => {
-            if !links_right(w, h, p, s, prev) {
-                return Walk::Unsound;
-            }
-            Walk::On(stands(at, left, p, from.marks))
-        }
-        _ => Walk::Unsound,
+    if map_end(w, m.len()).0 < at.0 {
+        return Walk::Beyond(from);
     }
+    if tag_before(w, h, at) != t {
+        return Walk::Unsound;
+    }
+    let Marks::Count(n) = mark_page(w, h, m, p, s, from.marks) else {
+        return Walk::Unsound;
+    };
+    Walk::On(stands(at, from.left - k, prev, link, n))
 }
 
-// Walks on to the end, or to a page that reaches beyond the map.
+// Walks on from a page to the end, or to a page that reaches beyond the map.
 pub fn mark_blocks(w: usize, h: &[u8], m: &mut [u64], from: Stand) -> Walk
-    requires { ⌜ StoodAt w (now h) (endFrom from) from (now m) ⌝ }
+    requires { ⌜ Halted w (now h) (endFrom from) from (now m) × MapSize (length (now m)) ⌝ }
     ensures { λ r. ⌜ WalkTold w (now (h .entry)) (endFrom from) (λ s. s .left ≡ 0) r (now (m .exit)) ⌝ }
 {
     let mut at = from;
     while at.left != 0 {
-        match pass_block(w, h, m, at) {
+        match pass_page(w, h, m, at) {
             Walk::Unsound => {
                 return Walk::Unsound;
             }
@@ -135,7 +192,10 @@ pub fn mark_blocks(w: usize, h: &[u8], m: &mut [u64], from: Stand) -> Walk
                 return Walk::Beyond(s);
             }
             Walk::On(s) => {
-                at = s;
+                let Passed::To(x) = pass_blocks(w, h, s) else {
+                    return Walk::Unsound;
+                };
+                at = x;
             }
         }
     }

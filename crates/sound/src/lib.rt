@@ -4,16 +4,19 @@ pub mod lists;
 pub mod map;
 pub mod pages;
 
+use crate::blocks::Passed;
 use crate::blocks::Stand;
 use crate::blocks::Walk;
 use crate::blocks::mark_blocks;
+use crate::blocks::pass_blocks;
 use crate::lists::count_lists;
-use links::link_at;
+use crate::lists::no_lists;
 use model::MAGIC_BYTES;
 use model::Position;
 use model::data_at;
 use model::end_at;
 use model::end_of;
+use model::first_free_at;
 use model::index;
 use model::index_at;
 use model::index_far_tag_at;
@@ -24,6 +27,7 @@ use model::start;
 use words::bits::spread;
 use words::word;
 ghost use mathlib.Core.Path.{_≡_};
+ghost use mathlib.Core.List.{[]};
 ghost use Prim.Native.Nat.{_≤_};
 ghost use lib.ListN.{length};
 ghost use Rattle.words.specs.Width.{Width};
@@ -33,7 +37,7 @@ ghost use Rattle.model.specs.Calls.{Lent};
 ghost use Rattle.sound.specs.Tells.{Tells};
 ghost use Rattle.sound.specs.Lists.{Filled};
 ghost use Rattle.sound.specs.Maps.{smallMap, middleMap};
-ghost use Rattle.sound.specs.Told.{Fixed, StoodAt, FillTold};
+ghost use Rattle.sound.specs.Told.{Fixed, MapSize, Halted, FillTold};
 
 // What a map was enough for: it is told whether blocks and lists are right, or the walk stands at a page that reaches beyond the map.
 enum Filling {
@@ -41,24 +45,24 @@ enum Filling {
     Beyond(Stand),
 }
 
-// The words of 64 bits of a map. It is cleared whole, so a check begins with a small one, and takes a larger one where it meets a page that reaches beyond it. The large one is enough for every heap.
+// The words of 64 bits of a map. It is cleared whole, so a check begins with none, takes a small one where it meets a page, and a larger one where it meets a page that reaches beyond it. The large one is enough for every heap.
 const SMALL: usize = 32;
 
 const MIDDLE: usize = 256;
 
 const LARGE: usize = 2048;
 
-// Whether blocks and lists are right, as far as this map goes.
+// Whether blocks and lists are right, from a page on, as far as this map goes.
 fn fill(w: usize, h: &[u8], m: &mut [u64], from: Stand) -> Filling
-    requires { ⌜ StoodAt w (now h) (endOf (length (now h))) from (now m) ⌝ }
+    requires { ⌜ Halted w (now h) (endOf (length (now h))) from (now m) × MapSize (length (now m)) ⌝ }
     ensures { λ r. ⌜ FillTold w (now (h .entry)) r (now (m .exit)) ⌝ }
 {
     match mark_blocks(w, h, m, from) {
         Walk::Unsound => Filling::Told(false),
         Walk::Beyond(s) => Filling::Beyond(s),
         Walk::On(s) => {
-            let prev = s.prev;
-            if word(w, h, link_at(w, prev).0) != 0 {
+            let link = s.link;
+            if word(w, h, link.0) != 0 {
                 return Filling::Told(false);
             }
             Filling::Told(count_lists(w, h, m, s.marks))
@@ -66,9 +70,9 @@ fn fill(w: usize, h: &[u8], m: &mut [u64], from: Stand) -> Filling
     }
 }
 
-// The same from where a walk stands with a middle map, with a large one.
+// The same with a large map, from where a walk has halted with a middle one.
 fn is_filled_large(w: usize, h: &[u8], smaller: &[u64], from: Stand) -> bool
-    requires { ⌜ StoodAt w (now h) (endOf (length (now h))) from (now smaller) × (length (now smaller) ≡ middleMap) × Lent (shape w) (now h) ⌝ }
+    requires { ⌜ Halted w (now h) (endOf (length (now h))) from (now smaller) × (length (now smaller) ≡ middleMap) × Lent (shape w) (now h) ⌝ }
     ensures { λ r. ⌜ Tells r (Filled w (now (h .entry)) (endOf (length (now (h .entry))))) ⌝ }
 {
     let mut m = [0u64; LARGE];
@@ -79,9 +83,9 @@ fn is_filled_large(w: usize, h: &[u8], smaller: &[u64], from: Stand) -> bool
     }
 }
 
-// And from where it stands with a small one.
+// With a middle map, from where it has halted with a small one.
 fn is_filled_middle(w: usize, h: &[u8], smaller: &[u64], from: Stand) -> bool
-    requires { ⌜ StoodAt w (now h) (endOf (length (now h))) from (now smaller) × (length (now smaller) ≡ smallMap) × Lent (shape w) (now h) ⌝ }
+    requires { ⌜ Halted w (now h) (endOf (length (now h))) from (now smaller) × (length (now smaller) ≡ smallMap) × Lent (shape w) (now h) ⌝ }
     ensures { λ r. ⌜ Tells r (Filled w (now (h .entry)) (endOf (length (now (h .entry))))) ⌝ }
 {
     let mut m = [0u64; MIDDLE];
@@ -92,23 +96,42 @@ fn is_filled_middle(w: usize, h: &[u8], smaller: &[u64], from: Stand) -> bool
     }
 }
 
-// Whether blocks and lists are right, from the start of the data area on.
-fn is_filled(w: usize, h: &[u8], end: Position) -> bool
-    requires { ⌜ Width w × Lent (shape w) (now h) × (end .0 ≡ endOf (length (now h))) × Fixed w (now h) (end .0) ⌝ }
-    ensures { λ r. ⌜ Tells r (Filled w (now (h .entry)) (end .0)) ⌝ }
+// With a small map, from where it has halted with none.
+fn is_filled_small(w: usize, h: &[u8], from: Stand) -> bool
+    requires { ⌜ Halted w (now h) (endOf (length (now h))) from [] × Lent (shape w) (now h) ⌝ }
+    ensures { λ r. ⌜ Tells r (Filled w (now (h .entry)) (endOf (length (now (h .entry))))) ⌝ }
 {
     let mut m = [0u64; SMALL];
-    let at = start(w);
-    let from = Stand {
-        at: at,
-        left: end.0 - at.0,
-        prev: Position(0),
-        marks: 0,
-    };
     match fill(w, h, &mut m, from) {
         Filling::Told(b) => b,
         Filling::Beyond(s) => is_filled_middle(w, h, &m, s),
     }
+}
+
+// Whether blocks and lists are right: without a map, up to the first page.
+fn is_filled(w: usize, h: &[u8], end: Position) -> bool
+    requires { ⌜ Width w × Lent (shape w) (now h) × (end .0 ≡ endOf (length (now h))) × Fixed w (now h) (end .0) ⌝ }
+    ensures { λ r. ⌜ Tells r (Filled w (now (h .entry)) (end .0)) ⌝ }
+{
+    let at = start(w);
+    let from = Stand {
+        at: at,
+        left: (end.0 - at.0) / 8,
+        prev: Position(0),
+        link: first_free_at(w),
+        marks: 0,
+    };
+    let Passed::To(s) = pass_blocks(w, h, from) else {
+        return false;
+    };
+    if s.left != 0 {
+        return is_filled_small(w, h, s);
+    }
+    let link = s.link;
+    if word(w, h, link.0) != 0 {
+        return false;
+    }
+    no_lists(w, h)
 }
 
 // Whether the fixed words are right, the magic number among them, which is one word of 8 bytes at every width.

@@ -11,6 +11,7 @@ use words::bits;
 use words::word;
 ghost use mathlib.Core.Path.{_≡_};
 ghost use mathlib.Core.Bool.{true};
+ghost use mathlib.Core.List.{[]};
 ghost use Prim.Native.Nat.{_+_, _≤_, _<_, _^_};
 ghost use lib.ListN.{length};
 ghost use Rattle.words.specs.Width.{Width};
@@ -20,7 +21,7 @@ ghost use Rattle.model.specs.Parts.{headAt};
 ghost use Rattle.sound.specs.Tells.{Tells};
 ghost use Rattle.sound.specs.Maps.{Marked};
 ghost use Rattle.sound.specs.Lists.{Listed};
-ghost use Rattle.sound.specs.Told.{NextBit, ListRoom, ListTold, FourEmpty};
+ghost use Rattle.sound.specs.Told.{Sizes, NextBit, ListRoom, ListTold, FourEmpty};
 
 // The bit of the item that the header x names. Where x is not a free item's of class c, class and flags of the difference become the highest bits, so that the answer is far beyond every map: one comparison tells both.
 fn next_bit(w: usize, x: usize, c: usize) -> usize
@@ -99,4 +100,18 @@ pub fn count_lists(w: usize, h: &[u8], m: &[u64], before: usize) -> bool
         }
     }
     left == 0
+}
+
+// Whether all lists are empty, as they must be where there is no page.
+pub fn no_lists(w: usize, h: &[u8]) -> bool
+    requires { ⌜ Sizes w (now h) (endOf (length (now h))) ⌝ }
+    ensures { λ r. ⌜ Tells r (Listed w (now (h .entry)) (endOf (length (now (h .entry)))) []) ⌝ }
+{
+    let mut any = 0;
+    let mut c = 0;
+    while c < classes(w) {
+        any = any | word(w, h, head_at(w, c).0);
+        c += 1;
+    }
+    any == 0
 }

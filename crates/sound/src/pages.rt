@@ -13,11 +13,12 @@ use model::items_in_page;
 use model::least_free;
 use model::offset_of;
 use model::page_need;
+use std::num::wrapping_sub_usize;
 use words::bits;
 use words::word;
 ghost use Rattle.sound.specs.Told.{MarkRoom, ItemsTold, PageRoom, PageTold};
 
-// Marks the free items among a page's items of class c, from bit `first` to bit `stop`.
+// Marks the free items among a page's items of class c, from bit `first` to bit `stop`: all but those in use. Where one is neither, its class or its flags differ from a free one's, which is judged once, of all differences together.
 fn mark_items(
     w: usize,
     h: &[u8],
@@ -31,20 +32,22 @@ fn mark_items(
     ensures { λ r. ⌜ ItemsTold w (now (h .entry)) (now (m .entry)) first stop c r (now (m .exit)) ⌝ }
 {
     let step = item_size(w, c) / w;
-    let mut n = before;
+    let mut n = before + items_in_page(w, c);
+    let mut wrong = 0;
     let mut i = first;
     while i < stop {
         let x = word(w, h, at_bit(w, i).0);
         if x == held_header(c) {
             i += step;
+            n -= 1;
         } else {
-            if class_and_flags(w, x) != free_mark(c) {
-                return Marks::Unsound;
-            }
             bits::mark(m, i);
-            n += 1;
+            wrong = wrong | wrapping_sub_usize(x, free_mark(c));
             i += step;
         }
+    }
+    if class_and_flags(w, wrong) != 0 {
+        return Marks::Unsound;
     }
     Marks::Count(n)
 }

@@ -1,11 +1,11 @@
 use Rattle.sound.proofs.Walks.{stood-end, stood-open, fill-told, fill-beyond}
 use Rattle.sound.proofs.Agree.{end-clear, agree-filled, agree-listed}
-use Rattle.sound.proofs.Places.{read-at, link-room}
+use Rattle.sound.proofs.Places.{link-room}
 use Rattle.sound.proofs.Tellings.{tells-no, tells-so}
 use Rattle.words.specs.Word.{wordAt}
 use Rattle.model.specs.Shape.{shape, start, endOf}
 use Rattle.model.specs.Parts.{firstFreeAt}
-use Rattle.sound.specs.Told.{BlocksMarked, expected, StoodAt, WalkTold}
+use Rattle.sound.specs.Told.{MapSize, BlocksMarked, StoodAt, WalkTold}
 use mathlib.Core.Bool.{false}
 use mathlib.Core.List.{[]}
 use mathlib.Core.Path.{_≡_, sym, _∙_}
@@ -16,7 +16,7 @@ use Rattle.sound.proofs.fill.Statement.{statement}
 use Rattle.sound.proofs.fill.Tie as tie
 
 mark-blocks-requires : tie.Need-mark-blocks-requires
-mark-blocks-requires c κs = rw (c .before .before .before .pre .stops) (c .before .before .before .pre)
+mark-blocks-requires c κs = (rw (c .before .before .before .pre .0 .stood .room .stops) (c .before .before .before .pre .0), c .before .before .before .pre .1)
 
 enum-told : tie.Need-enum-told
 enum-told c = search needs
@@ -29,33 +29,30 @@ enum-known-s-2 c = search needs
 
 -- what the walk told, of the heap's end
 told : (c : tie.After-mark-blocks) → WalkTold (c .before .before .before .before .args .w) (c .before .before .before .before .args .h .now) (endOf (length (c .before .before .before .before .args .h .now))) (λ s. s .left ≡ 0) (c .mark-blocks .result) (c .mark-blocks .last .1 .1 .0)
-told c = rw (c .before .before .before .before .pre .stops) at (c .mark-blocks .ensures)
+told c = rw (c .before .before .before .before .pre .0 .stood .room .stops) at (c .mark-blocks .ensures)
+
+mapped : (c : tie.After-mark-blocks) → MapSize (length (c .mark-blocks .last .1 .1 .0))
+mapped c = record { some = omega (arith, c .before .before .before .before .pre .1 .some, c .mark-blocks .kept); few = omega (arith, c .before .before .before .before .pre .1 .few, c .mark-blocks .kept) }
 
 -- it stands at the end
-stands : (c : tie.After-prev) → StoodAt (c .before .before .before .before .before .before .before .before .before .before .args .w) (c .before .before .before .before .before .before .before .before .before .before .args .h .now) (endOf (length (c .before .before .before .before .before .before .before .before .before .before .args .h .now))) (c .before .before .s2 .given .0 .0) (c .before .before .before .before .before .before .mark-blocks .last .1 .1 .0)
+stands : (c : tie.After-link) → StoodAt (c .before .before .before .before .before .before .before .before .before .before .args .w) (c .before .before .before .before .before .before .before .before .before .before .args .h .now) (endOf (length (c .before .before .before .before .before .before .before .before .before .before .args .h .now))) (c .before .before .s2 .given .0 .0) (c .before .before .before .before .before .before .mark-blocks .last .1 .1 .0)
 stands c = told (c .before .before .before .before .before .before) .is-on _ (c .before .before .s2 .given .1) .0
 
-link-at-requires : tie.Need-link-at-requires
-link-at-requires c κs = let z = stands (c) in (z .sizes .width, omega (arith, z .before, z .stops, z .sizes .inside))
-
 word-requires : tie.Need-word-requires
-word-requires c κs = let z = stands (c .before) in (z .sizes .width, rw (c .link-at .ensures) (omega (arith, z .stops, z .sizes .inside, link-room (z .sizes .width) _ _ (z .low) (z .before))))
+word-requires c κs = let z = stands (c) in (z .room .sizes .width, rw (z .room .linked) (omega (arith, z .room .stops, z .room .sizes .inside, link-room (z .room .sizes .width) _ _ (z .room .low) (z .room .before))))
 
 same-length : tie.Need-same-length
 same-length c = search needs
 
--- no further free block is expected, or one is
-named : (c : tie.After-word) → c .word .result ≡ expected (c .before .before .before .before .before .before .before .before .before .before .before .before .args .w) (c .before .before .before .before .before .before .before .before .before .before .before .before .args .h .now) (c .before .before .before .before .s2 .given .0 .0 .prev .0)
-named c = read-at _ _ (c .word .ensures) (c .before .link-at .ensures)
-
-ended : (c : tie.Else1) → BlocksMarked (c .before .before .before .before .before .before .before .before .before .before .before .before .before .args .w) (c .before .before .before .before .before .before .before .before .before .before .before .before .before .args .h .now) (endOf (length (c .before .before .before .before .before .before .before .before .before .before .before .before .before .args .h .now))) (start (shape (c .before .before .before .before .before .before .before .before .before .before .before .before .before .args .w))) 0 false (wordAt (c .before .before .before .before .before .before .before .before .before .before .before .before .before .args .w) (c .before .before .before .before .before .before .before .before .before .before .before .before .before .args .h .now) (firstFreeAt (shape (c .before .before .before .before .before .before .before .before .before .before .before .before .before .args .w)))) [] (c .before .before .before .before .before .before .before .before .before .mark-blocks .last .1 .1 .0)
-ended c = stood-end (stands (c .before .before .before)) (told (c .before .before .before .before .before .before .before .before .before) .is-on _ (c .before .before .before .before .before .s2 .given .1) .1) (sym (named (c .before)) ∙ c .if1 .left)
+-- no further free block is expected
+ended : (c : tie.Else1) → BlocksMarked (c .before .before .before .before .before .before .before .before .before .before .before .before .args .w) (c .before .before .before .before .before .before .before .before .before .before .before .before .args .h .now) (endOf (length (c .before .before .before .before .before .before .before .before .before .before .before .before .args .h .now))) (start (shape (c .before .before .before .before .before .before .before .before .before .before .before .before .args .w))) 0 false (wordAt (c .before .before .before .before .before .before .before .before .before .before .before .before .args .w) (c .before .before .before .before .before .before .before .before .before .before .before .before .args .h .now) (firstFreeAt (shape (c .before .before .before .before .before .before .before .before .before .before .before .before .args .w)))) [] (c .before .before .before .before .before .before .before .before .mark-blocks .last .1 .1 .0)
+ended c = stood-end (stands (c .before .before)) (told (c .before .before .before .before .before .before .before .before) .is-on _ (c .before .before .before .before .s2 .given .1) .1) (sym (c .before .word .ensures) ∙ c .if1 .left)
 
 returns : tie.Need-returns
-returns c = fill-told (tells-no _ (λ f. stood-open (stands (c .before .before .before)) (told (c .before .before .before .before .before .before .before .before .before) .is-on _ (c .before .before .before .before .before .s2 .given .1) .1) (λ e. c .if1 .taken (named (c .before) ∙ e)) (f .onward)))
+returns c = fill-told (tells-no _ (λ f. stood-open (stands (c .before .before)) (told (c .before .before .before .before .before .before .before .before) .is-on _ (c .before .before .before .before .s2 .given .1) .1) (λ e. c .if1 .taken (c .before .word .ensures ∙ e)) (f .onward)))
 
 count-lists-requires : tie.Need-count-lists-requires
-count-lists-requires c κs = let z = stands (c .before .before .before .before) in (record { sizes = z .sizes; map = z .map; clear = record { from = λ j h. z .marking .clear .from j (omega (arith, h, z .stops)) }; none = end-clear (z .sizes .width) _ _ _ (ended (c .before)) }, z .marking .marked)
+count-lists-requires c κs = let z = stands (c .before .before .before) in (record { sizes = z .room .sizes; map = mapped (c .before .before .before .before .before .before .before .before .before); clear = record { from = λ j h. z .marking .clear .from j (omega (arith, h, z .room .stops)) }; none = end-clear (z .room .sizes .width) _ _ _ (ended (c .before)) }, z .marking .marked)
 
 same-length-2 : tie.Need-same-length-2
 same-length-2 c = search needs
@@ -73,7 +70,7 @@ same-length-4 : tie.Need-same-length-4
 same-length-4 c = search needs
 
 returns-4 : tie.Need-returns-4
-returns-4 c = fill-told (tells-so (agree-filled (c .before .before .before .before .before .before .before .before .before .before .before .before .before .before .before .pre .sizes .width) _ _ _ (ended (c .before .before))) (agree-listed (c .before .before .before .before .before .before .before .before .before .before .before .before .before .before .before .pre .sizes .width) _ _ _ (ended (c .before .before))) (c .count-lists .ensures))
+returns-4 c = fill-told (tells-so (agree-filled (c .before .before .before .before .before .before .before .before .before .before .before .before .before .before .pre .0 .stood .room .sizes .width) _ _ _ (ended (c .before .before))) (agree-listed (c .before .before .before .before .before .before .before .before .before .before .before .before .before .before .pre .0 .stood .room .sizes .width) _ _ _ (ended (c .before .before))) (c .count-lists .ensures))
 
 pub fill-spec : {M : Type 1} → statement M
 fill-spec =
@@ -83,7 +80,6 @@ fill-spec =
     enum-told
     enum-known-s
     enum-known-s-2
-    link-at-requires
     word-requires
     same-length
     returns

@@ -1,4 +1,4 @@
-use Rattle.sound.proofs.Walks.{stood-same, large-enough}
+use Rattle.sound.proofs.Walks.{halted-same, large-enough}
 use Rattle.words.proofs.BitLaws.{zeros-clear}
 use Rattle.sound.specs.Maps.{largeMap}
 use native.Mathlib.Omega.{arith}
@@ -16,7 +16,7 @@ slice-aggregate-fill : tie.Need-slice-aggregate-fill
 slice-aggregate-fill c = search needs
 
 fill-requires : tie.Need-fill-requires
-fill-requires c κs = stood-same (c .before .before .spread .ensures) (record { some = omega arith; few = omega arith }) (c .before .before .before .before .before .before .pre .0)
+fill-requires c κs = (halted-same (c .before .before .spread .ensures) (c .before .before .before .before .before .before .pre .0), record { some = omega arith; few = omega arith })
 
 enum-known-b : tie.Need-enum-known-b
 enum-known-b c = search needs
@@ -28,7 +28,7 @@ returns : tie.Need-returns
 returns c = c .before .before .before .before .fill .ensures .is-told _ (c .before .b .given .1)
 
 returns-2 : tie.Need-returns-2
-returns-2 c = absurd (large-enough (c .before .before .before .before .before .before .before .before .before .before .pre .0 .sizes .width) (c .before .before .before .before .before .before .before .before .before .before .args .h .now) _ (omega arith) (c .before .before .before .before .before .before .before .before .before .before .pre .2 .1) (c .before .before .before .fill .ensures .is-beyond _ (c .enum-told .given .1) .1))
+returns-2 c = absurd (large-enough (c .before .before .before .before .before .before .before .before .before .before .pre .0 .stood .room .sizes .width) (c .before .before .before .before .before .before .before .before .before .before .args .h .now) _ (omega arith) (c .before .before .before .before .before .before .before .before .before .before .pre .2 .1) (c .before .before .before .fill .ensures .is-beyond _ (c .enum-told .given .1) .1))
 
 pub is-filled-large-spec : {M : Type 1} → statement M
 is-filled-large-spec =

@@ -1,4 +1,4 @@
-use Rattle.sound.proofs.Walks.{stood-same}
+use Rattle.sound.proofs.Walks.{halted-same}
 use Rattle.words.proofs.BitLaws.{zeros-clear}
 use Rattle.sound.specs.Maps.{middleMap}
 use native.Mathlib.Omega.{arith}
@@ -16,7 +16,7 @@ slice-aggregate-fill : tie.Need-slice-aggregate-fill
 slice-aggregate-fill c = search needs
 
 fill-requires : tie.Need-fill-requires
-fill-requires c κs = stood-same (c .before .before .spread .ensures) (record { some = omega arith; few = omega arith }) (c .before .before .before .before .before .before .pre .0)
+fill-requires c κs = (halted-same (c .before .before .spread .ensures) (c .before .before .before .before .before .before .pre .0), record { some = omega arith; few = omega arith })
 
 enum-known-b : tie.Need-enum-known-b
 enum-known-b c = search needs

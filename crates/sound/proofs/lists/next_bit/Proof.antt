@@ -27,10 +27,10 @@ fits : (c : tie.After-wrapping-sub-usize) → c .wrapping-sub-usize .result < 2 
 fits c = omega (arith, c .wrapping-sub-usize .ok)
 
 mul-result : tie.Need-mul-result
-mul-result c = record { fits = next-fits (c .before .before .pre .0) _ (fits c) .0 }
+mul-result c = record { fits = omega (arith, next-fits (c .before .before .pre .0) (c .wrapping-sub-usize .result) (fits c)) }
 
 add-result : tie.Need-add-result
-add-result c = record { fits = next-fits (c .before .before .pre .0) _ (fits c) .1 }
+add-result c = record { fits = omega (arith, next-fits (c .before .before .pre .0) (c .wrapping-sub-usize .result) (fits c)) }
 
 -- what is taken away gives the header back
 differs : (c : tie.After-wrapping-sub-usize) → (c .wrapping-sub-usize .result + freeMark (c .before .before .args .c)) % 2 ^ 64 ≡ c .before .before .args .x
