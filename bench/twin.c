@@ -139,13 +139,27 @@ static void put_head(uint8_t *h, uint64_t class, uint64_t offset)
     put(h, INDEX_PAGE + 8 * class, offset);
 }
 
-/* The check. The map has one bit for each 8 bytes of the heap; a bit that is set marks a free
-   item. The lists have to show as many marked items as there are. */
+/* The check. The map has a bit for each word from the index page on, so that a free item's header, shifted by 7,
+   is the bit of the next item on its list. A bit that is set marks the free item whose header stands there; bit 0,
+   the end of a list, has never a mark. The lists have to show as many marked items as there are: an item names one
+   next item, so a list that ends shows none twice. */
 
 struct marks {
     uint64_t count;
+    uint64_t top; /* the bits below it are cleared; from it on there is no mark */
     uint64_t map[LONGEST / 512];
 };
+
+/* Low bits that ought to be 0 become the highest: one comparison refuses them and a number that is too large. */
+static uint64_t rotate_right(uint64_t word, unsigned bits)
+{
+    return word >> bits | word << (64 - bits);
+}
+
+static uint64_t bit_of(uint64_t position)
+{
+    return (position - INDEX_PAGE) / 8;
+}
 
 static bool fixed_words_right(const uint8_t *h, uint64_t end)
 {
@@ -153,105 +167,130 @@ static bool fixed_words_right(const uint8_t *h, uint64_t end)
         && get(h, INDEX_LOW_TAG) == INDEX_TAG && get(h, INDEX_HIGH_TAG) == INDEX_TAG;
 }
 
-/* Whether a page is right; marks its free items. */
-static bool page_right(const uint8_t *h, uint64_t page, uint64_t size, struct marks *marks)
+/* Clears the map up to a bit and as far again, so that few pages have to. */
+__attribute__((noinline)) static void clear_to(struct marks *marks, uint64_t bit)
 {
-    uint64_t class = class_in(get(h, page + 8));
-    uint64_t step = item_size(class);
+    uint64_t words = 2 * (bit / 64 + 1);
+
+    if (words > LONGEST / 512)
+        words = LONGEST / 512;
+    memset(marks->map + marks->top / 64, 0, 8 * words - marks->top / 8);
+    marks->top = 64 * words;
+}
+
+/* Whether a page is right; marks its free items. Inlined it would cost the walk its registers. Bits
+   are of 32 bits here, because the compiler then counts them in one register. */
+__attribute__((noinline)) static bool page_right(const uint8_t *h, uint64_t page, uint64_t size, struct marks *marks)
+{
+    uint32_t class = class_in(get(h, page + 8));
+    uint32_t step = item_size(class) / 8;
+    uint32_t need = items_in_page(class) * step;
+    uint32_t bit = bit_of(page + 8);
+    uint32_t stop = bit + need;
     uint64_t used = used_header(class);
     uint64_t free = free_header(class, 0);
-    uint64_t first = page + 8;
-    uint64_t stop = first + items_in_page(class) * step;
-    uint64_t count = 0;
+    uint64_t count = marks->count;
 
-    if (page + size - 8 - stop > 24)
+    if (size - 16 - 8 * need > 24)
         return false;
-    for (uint64_t item = first; item != stop; item += step) {
-        uint64_t header = get(h, item);
-        if (header == used)
+    for (; bit != stop; bit += step) {
+        uint64_t header = get(h, INDEX_PAGE + 8 * (uint64_t)bit);
+        if (__builtin_expect(header == used, false)) /* spares a free item, the dearer one, a jump */
             continue;
         if (header % 128 != free)
             return false;
-        marks->map[item / 512] |= (uint64_t)1 << (item / 8 % 64);
+        marks->map[bit / 64] |= (uint64_t)1 << bit % 64;
         count++;
     }
-    marks->count += count;
+    marks->count = count;
     return true;
+}
+
+/* Whether a free block can stand behind the last one, where "link" has to name it. The tag before it tells whether it
+   touches that; before the first block it is the index page's. */
+static bool free_right(const uint8_t *h, uint64_t block, uint64_t size, uint64_t previous, uint64_t link)
+{
+    return size >= SMALLEST_FREE && get(h, link) == block && kind_of(get(h, block - 8)) != FREE
+        && get(h, block + size - 16) == previous;
 }
 
 /* Whether the blocks and the list of the free ones are right; marks the free items. */
 static bool blocks_right(const uint8_t *h, uint64_t end, struct marks *marks)
 {
     uint64_t position = DATA_AREA;
-    uint64_t next_free = get(h, FIRST_FREE);
+    uint64_t left = end - DATA_AREA;
     uint64_t previous_free = 0;
-    bool after_free = false;
+    uint64_t link = FIRST_FREE;
 
-    while (position != end) {
+    while (left != 0) {
         uint64_t tag = get(h, position);
         uint64_t size = size_of(tag);
-        if (size > end - position || size < SMALLEST_FREE || get(h, position + size - 8) != tag)
+        if (size > left)
             return false;
-        switch (kind_of(tag)) {
-        case FREE:
-            if (after_free || position != next_free || get(h, position + size - 16) != previous_free)
-                return false;
-            previous_free = position;
-            next_free = next_of(h, position);
-            after_free = true;
-            break;
-        case VARIABLE:
+        if (kind_of(tag) == VARIABLE) {
             if (size < SMALLEST_VARIABLE)
                 return false;
-            after_free = false;
-            break;
-        case PAGE:
-            if (size < SMALLEST_PAGE || !page_right(h, position, size, marks))
+        } else if (kind_of(tag) == FREE) {
+            if (!free_right(h, position, size, previous_free, link))
                 return false;
-            after_free = false;
-            break;
-        default:
-            return false;
+            previous_free = position;
+            link = position + 8;
+        } else {
+            if (kind_of(tag) != PAGE || size < SMALLEST_PAGE)
+                return false;
+            if (bit_of(position + size) > marks->top)
+                clear_to(marks, bit_of(position + size));
+            if (!page_right(h, position, size, marks))
+                return false;
         }
         position += size;
+        if (get(h, position - 8) != tag)
+            return false;
+        left -= size;
     }
-    return next_free == 0;
+    return get(h, link) == 0;
 }
 
-/* Whether the list of a class visits marked items of that class only, and no more than are left to count; counts them down. */
-static bool list_right(const uint8_t *h, uint64_t end, uint64_t class, struct marks *marks)
+/* Whether the list of a class visits marked items of that class only, and no more than "count"; counts them down. */
+static bool list_right(const uint8_t *h, uint64_t class, const struct marks *marks, uint64_t *count)
 {
-    uint64_t offset = head_of(h, class);
+    uint64_t head = head_of(h, class);
     uint64_t free = free_header(class, 0);
 
-    if (offset % 8 != 0)
-        return false;
-    while (offset != 0) {
-        if (offset >= end - INDEX_PAGE)
+    if (head == 0)
+        return true;
+    for (uint64_t bit = rotate_right(head, 3); bit < marks->top;) {
+        if (!(marks->map[(uint32_t)bit / 64] >> bit % 64 & 1))
+            return bit == 0;
+        if ((*count)-- == 0)
             return false;
-        uint64_t item = offset + INDEX_PAGE;
-        uint64_t header = get(h, item);
-        uint64_t bit = (uint64_t)1 << (item / 8 % 64);
-        if (!(marks->map[item / 512] & bit) || header % 128 != free || marks->count == 0)
-            return false;
-        marks->count--;
-        offset = next_in(header);
+        bit = rotate_right(get(h, INDEX_PAGE + 8 * bit) - free, 7);
     }
-    return true;
+    return false;
+}
+
+/* Whether the lists visit each marked item once and nothing else. Most lists are empty: one test does for four. */
+static bool lists_right(const uint8_t *h, const struct marks *marks)
+{
+    uint64_t count = marks->count;
+
+    for (uint64_t four = 0; four < CLASSES; four += 4) {
+        if ((head_of(h, four) | head_of(h, four + 1) | head_of(h, four + 2) | head_of(h, four + 3)) == 0)
+            continue;
+        for (uint64_t class = four; class < four + 4; class++)
+            if (!list_right(h, class, marks, &count))
+                return false;
+    }
+    return count == 0;
 }
 
 static bool is_sound(const uint8_t *h, uint64_t end)
 {
-    struct marks marks;
+    struct marks marks; /* the map is cleared where a page is met */
 
     marks.count = 0;
-    memset(marks.map, 0, (end + 511) / 512 * 8);
-    if (!fixed_words_right(h, end) || !blocks_right(h, end, &marks))
-        return false;
-    for (uint64_t class = 0; class < CLASSES; class++)
-        if (!list_right(h, end, class, &marks))
-            return false;
-    return marks.count == 0;
+    marks.top = 0;
+    return fixed_words_right(h, end) && blocks_right(h, end, &marks) && lists_right(h, &marks);
 }
 
 uint64_t twin_check(const uint8_t *h, size_t n)
