@@ -178,9 +178,9 @@ __attribute__((noinline)) static void clear_to(struct marks *marks, uint64_t bit
     marks->top = 64 * words;
 }
 
-/* Whether a page is right; marks its free items. Inlined it would cost the walk its registers. Bits
+/* Whether a page of so many words is right; marks its free items. Inlined it would cost the walk its registers. Bits
    are of 32 bits here, because the compiler then counts them in one register. */
-__attribute__((noinline)) static bool page_right(const uint8_t *h, uint64_t page, uint64_t size, struct marks *marks)
+__attribute__((noinline)) static bool page_right(const uint8_t *h, uint64_t page, uint64_t words, struct marks *marks)
 {
     uint32_t class = class_in(get(h, page + 8));
     uint32_t step = item_size(class) / 8;
@@ -190,63 +190,63 @@ __attribute__((noinline)) static bool page_right(const uint8_t *h, uint64_t page
     uint64_t used = used_header(class);
     uint64_t free = free_header(class, 0);
     uint64_t count = marks->count;
+    uint64_t wrong = 0;
 
-    if (size - 16 - 8 * need > 24)
+    if (words - 2 - need > 3)
         return false;
     for (; bit != stop; bit += step) {
         uint64_t header = get(h, INDEX_PAGE + 8 * (uint64_t)bit);
         if (__builtin_expect(header == used, false)) /* spares a free item, the dearer one, a jump */
             continue;
-        if (header % 128 != free)
-            return false;
+        wrong |= header ^ free;
         marks->map[bit / 64] |= (uint64_t)1 << bit % 64;
         count++;
     }
     marks->count = count;
-    return true;
+    return wrong % 128 == 0;
 }
 
 /* Whether a free block can stand behind the last one, where "link" has to name it. The tag before it tells whether it
    touches that; before the first block it is the index page's. */
-static bool free_right(const uint8_t *h, uint64_t block, uint64_t size, uint64_t previous, uint64_t link)
+static bool free_right(const uint8_t *h, uint64_t block, uint64_t words, uint64_t previous, uint64_t link)
 {
-    return size >= SMALLEST_FREE && get(h, link) == block && kind_of(get(h, block - 8)) != FREE
-        && get(h, block + size - 16) == previous;
+    return words >= SMALLEST_FREE / 8 && get(h, link) == block && kind_of(get(h, block - 8)) != FREE
+        && get(h, block + 8 * words - 16) == previous;
 }
 
-/* Whether the blocks and the list of the free ones are right; marks the free items. */
+/* Whether the blocks and the list of the free ones are right; marks the free items. For each kind one comparison tells
+   whether the tag is of that kind and the block within the words that are left. */
 static bool blocks_right(const uint8_t *h, uint64_t end, struct marks *marks)
 {
     uint64_t position = DATA_AREA;
-    uint64_t left = end - DATA_AREA;
+    uint64_t left = (end - DATA_AREA) / 8;
     uint64_t previous_free = 0;
     uint64_t link = FIRST_FREE;
 
     while (left != 0) {
         uint64_t tag = get(h, position);
-        uint64_t size = size_of(tag);
-        if (size > left)
-            return false;
-        if (kind_of(tag) == VARIABLE) {
-            if (size < SMALLEST_VARIABLE)
+        uint64_t words = rotate_right(tag - VARIABLE, 3);
+        if (words <= left) {
+            if (words < SMALLEST_VARIABLE / 8)
                 return false;
-        } else if (kind_of(tag) == FREE) {
-            if (!free_right(h, position, size, previous_free, link))
+        } else if ((words = rotate_right(tag - FREE, 3)) <= left) {
+            if (!free_right(h, position, words, previous_free, link))
                 return false;
             previous_free = position;
             link = position + 8;
         } else {
-            if (kind_of(tag) != PAGE || size < SMALLEST_PAGE)
+            words = rotate_right(tag - PAGE, 3);
+            if (words > left || words < SMALLEST_PAGE / 8)
                 return false;
-            if (bit_of(position + size) > marks->top)
-                clear_to(marks, bit_of(position + size));
-            if (!page_right(h, position, size, marks))
+            if (bit_of(position) + words > marks->top)
+                clear_to(marks, bit_of(position) + words);
+            if (!page_right(h, position, words, marks))
                 return false;
         }
-        position += size;
+        position += 8 * words;
         if (get(h, position - 8) != tag)
             return false;
-        left -= size;
+        left -= words;
     }
     return get(h, link) == 0;
 }
