@@ -168,7 +168,7 @@ static bool fixed_words_right(const uint8_t *h, uint64_t end)
 }
 
 /* Clears the map up to a bit and as far again, so that few pages have to. */
-__attribute__((noinline)) static void clear_to(struct marks *marks, uint64_t bit)
+static void clear_to(struct marks *marks, uint64_t bit)
 {
     uint64_t words = 2 * (bit / 64 + 1);
 
@@ -178,29 +178,30 @@ __attribute__((noinline)) static void clear_to(struct marks *marks, uint64_t bit
     marks->top = 64 * words;
 }
 
-/* Whether a page of so many words is right; marks its free items. Inlined it would cost the walk its registers. Bits
-   are of 32 bits here, because the compiler then counts them in one register. */
-__attribute__((noinline)) static bool page_right(const uint8_t *h, uint64_t page, uint64_t words, struct marks *marks)
+/* Whether a page of so many words is right; marks its free items: all but those in use, and counts these
+   off. What a free item's header has besides the next item is judged once, of all together. */
+static bool page_right(const uint8_t *h, uint64_t page, uint64_t words, struct marks *marks)
 {
-    uint32_t class = class_in(get(h, page + 8));
-    uint32_t step = item_size(class) / 8;
-    uint32_t need = items_in_page(class) * step;
-    uint32_t bit = bit_of(page + 8);
-    uint32_t stop = bit + need;
+    uint64_t class = class_in(get(h, page + 8));
+    uint64_t step = item_size(class) / 8;
+    uint64_t need = items_in_page(class) * step;
+    uint64_t bit = bit_of(page + 8);
+    uint64_t stop = bit + need;
     uint64_t used = used_header(class);
     uint64_t free = free_header(class, 0);
-    uint64_t count = marks->count;
+    uint64_t count = marks->count + items_in_page(class);
     uint64_t wrong = 0;
 
     if (words - 2 - need > 3)
         return false;
-    for (; bit != stop; bit += step) {
-        uint64_t header = get(h, INDEX_PAGE + 8 * (uint64_t)bit);
-        if (__builtin_expect(header == used, false)) /* spares a free item, the dearer one, a jump */
+    for (; bit < stop; bit += step) {
+        uint64_t header = get(h, INDEX_PAGE + 8 * bit);
+        if (header == used) {
+            count--;
             continue;
+        }
         wrong |= header ^ free;
-        marks->map[bit / 64] |= (uint64_t)1 << bit % 64;
-        count++;
+        marks->map[(uint32_t)bit / 64] |= (uint64_t)1 << bit % 64;
     }
     marks->count = count;
     return wrong % 128 == 0;
@@ -284,13 +285,25 @@ static bool lists_right(const uint8_t *h, const struct marks *marks)
     return count == 0;
 }
 
+/* Whether all lists are empty, as they must be where there is no page. */
+static bool no_lists(const uint8_t *h)
+{
+    uint64_t any = 0;
+
+    for (uint64_t class = 0; class < CLASSES; class++)
+        any |= head_of(h, class);
+    return any == 0;
+}
+
 static bool is_sound(const uint8_t *h, uint64_t end)
 {
     struct marks marks; /* the map is cleared where a page is met */
 
     marks.count = 0;
     marks.top = 0;
-    return fixed_words_right(h, end) && blocks_right(h, end, &marks) && lists_right(h, &marks);
+    if (!fixed_words_right(h, end) || !blocks_right(h, end, &marks))
+        return false;
+    return marks.top == 0 ? no_lists(h) : lists_right(h, &marks);
 }
 
 uint64_t twin_check(const uint8_t *h, size_t n)

@@ -11,8 +11,8 @@
    A heap holds positions only, so it may be copied, saved and read back at another place. Addresses are multiples of 8
    from the buffer's start: align the buffer to 8 where records are to be cast to structs. Calls on one buffer need
    their caller's lock; calls on different buffers need none. A null buffer must have the length 0, and gets
-   JAGWIBODU_BAD_LENGTH. A call uses the registers that C's calling convention gives it, no more than JAGWIBODU_STACK bytes
-   of stack, and nothing but the buffer and the C library's memset. */
+   JAGWIBODU_BAD_LENGTH. A call uses the registers that C's calling convention gives it, no more than JAGWIBODU_STACK
+   bytes of stack, and nothing but the buffer and the C library's memset and memcpy. */
 #ifndef JAGWIBODU_H
 #define JAGWIBODU_H
 
@@ -30,7 +30,7 @@ extern "C" {
 #define JAGWIBODU_LONGEST 1048576
 
 /* No call uses more bytes of stack; the tests measure it. */
-#define JAGWIBODU_STACK 17408
+#define JAGWIBODU_STACK 20480
 
 enum jagwibodu_refusal {
     JAGWIBODU_GRANTED = 0,
