@@ -10,8 +10,8 @@ use Rattle.model.specs.Sound.{Here, Sound}
 use Rattle.model.specs.Calls.{Lent, Checked}
 use Rattle.model.proofs.Sizes.{eight}
 use Rattle.engine.specs.Ready.{Ready}
-use Rattle.sound.specs.Tells.{Tells}
-use Rattle.sound.proofs.Tellings.{clash}
+use Rattle.telling.specs.Tells.{Tells}
+use Rattle.telling.proofs.Tellings.{clash}
 use Rattle.heap.specs.declared.Refusal.{Refusal}
 use Rattle.heap.specs.declared.Refusal.the-variants.{BadLength, NotOpened, NotSound, BadSize, NotLive, NoRoom, AlreadyOpened}
 use Rattle.heap.specs.declared.Verdict.{Verdict}

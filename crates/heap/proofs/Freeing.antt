@@ -10,7 +10,7 @@ use Rattle.model.specs.Rules.{Found, block, thing, nothing, find, freed}
 use Rattle.model.specs.Refusals.{notLive}
 use Rattle.model.specs.Calls.{refused, granted, found, drawn, without}
 use Rattle.engine.specs.Free.{isFound, freedBytes, GivesBack}
-use Rattle.sound.proofs.Tellings.{clash}
+use Rattle.telling.proofs.Tellings.{clash}
 
 module _ (b : List ℕ) (a : ℕ) (r : Bool) (c : List ℕ) (f : GivesBack 8 b a r c) (L : Layout) (h : Here wide b L) where
   pub gave-back : r ≡ true → granted 0 c ≡ found wide (find wide a L) (refused b notLive) (granted 0 (drawn wide (without wide a L) b))

@@ -31,7 +31,7 @@ ghost use Prim.Native.Nat.{_≤_};
 ghost use Rattle.model.specs.Shape.{wide};
 ghost use Rattle.model.specs.Refusals.{alreadyOpened};
 ghost use Rattle.model.specs.Calls.{Lent, Initialises, Checks, Allocates, Frees, Resizes};
-ghost use Rattle.sound.specs.Tells.{Tells};
+ghost use Rattle.telling.specs.Tells.{Tells};
 ghost use Rattle.heap.specs.Answers.{Examined, answerOf, resizedAs, outcome, refusalNumber};
 
 // The bytes of a word of document 01's heap.

@@ -17,11 +17,13 @@ use Rattle.model.specs.Layout.{Slot, idle, held, Use, variable, page, Block, fr
 use Rattle.model.specs.Sound.{times, Apart, AllowedUse, Allowed, AllAllowed, idleItems, Valid, Here, Sound}
 use Rattle.model.proofs.Sizes.{flags-idle}
 use Rattle.model.proofs.blocks.Blocks.{le-ends}
-use Rattle.sound.specs.Onward.{Slots, useKind, Headers, Reads}
-use Rattle.sound.specs.Lists.{named, Chain, Chains}
-use Rattle.sound.proofs.MapLaws.{fewer}
-use Rattle.sound.proofs.PageLaws.{classAt, page-class}
-use Rattle.sound.proofs.Walks.{use-size, use-kind}
+use Rattle.marking.specs.Uses.{Slots, useKind, Headers}
+use Rattle.walking.specs.Onward.{Reads}
+use Rattle.following.specs.Lists.{named, Chain}
+use Rattle.visiting.specs.Lists.{Chains}
+use Rattle.marking.proofs.MapLaws.{fewer}
+use Rattle.marking.proofs.PageLaws.{classAt, page-class}
+use Rattle.walking.proofs.Walks.{use-size, use-kind}
 use Rattle.sound.proofs.HereFilled.{here-reads, here-chains}
 use Rattle.promises.proofs.Stable.{numbers}
 

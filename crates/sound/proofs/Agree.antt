@@ -1,5 +1,5 @@
 -- The marks that the walk leaves and the marked items that the lists meet are the same exactly where each class's list visits its free items.
-use Prim.Native.Nat.{ℕ, zero, suc, _+_, _-_, _%_, _≤_, _<_}
+use Prim.Native.Nat.{ℕ, _+_, _%_, _≤_, _<_}
 use mathlib.Core.Path.{_≡_, refl, sym, ap, _∙_}
 use mathlib.Core.Bool.{false}
 use mathlib.Core.List.{List, [], _∷_, _++_}
@@ -12,80 +12,49 @@ use Rattle.words.specs.Word.{wordAt}
 use Rattle.words.specs.Bits.{bitAt}
 use Rattle.words.proofs.BitLaws.{beyond-clear}
 use Rattle.model.specs.Shape.{shape, index, start, itemAt}
-use Rattle.model.specs.Parts.{classIn, firstFreeAt, headAt, firstItemAt}
+use Rattle.model.specs.Parts.{firstFreeAt, headAt, firstItemAt}
 use Rattle.model.specs.Layout.{Slot, variable, page, Block, free, used, useSize, sizeOf}
 use Rattle.model.specs.Sound.{times, idleSlots, idleIn, idleItems}
 use Rattle.model.proofs.pictures.Drawn.{times-append}
-use Rattle.sound.specs.Onward.{Slots, useKind, Headers, Reads, freeIn, freeItems}
-use Rattle.sound.specs.Maps.{offsetBit, offsetAtBit}
-use Rattle.sound.specs.Lists.{FreeItemAt, Chain, Chains, flat, Listed, Filled}
-use Rattle.sound.specs.Told.{BlocksMarked}
 use Rattle.model.proofs.items.Offsets.{items-off}
-use Rattle.sound.proofs.ItemHeaders.{slots-header, items-header}
-use Rattle.sound.proofs.Chained.{chain-item, chain-few, chains-at}
-use Rattle.sound.proofs.OneLayout.{blocks-one}
 use Rattle.model.proofs.Sizes.{start-eight, class-few}
-use Rattle.sound.proofs.Places.{offset-none, offset-back}
+use Rattle.visiting.proofs.Flat.{class, flat-class}
+use Rattle.marking.specs.Uses.{Slots, useKind, Headers, freeIn}
+use Rattle.walking.specs.Onward.{Reads, freeItems}
+use Rattle.marking.specs.Maps.{offsetBit, offsetAtBit}
+use Rattle.visiting.specs.Lists.{flat, Listed}
+use Rattle.sound.specs.Told.{Filled}
+use Rattle.walking.specs.Told.{BlocksMarked}
+use Rattle.sound.proofs.ItemHeaders.{slots-header, items-header}
+use Rattle.visiting.proofs.Chained.{chain-item, chains-at}
+use Rattle.sound.proofs.OneLayout.{blocks-one}
+use Rattle.marking.proofs.Places.{offset-none, offset-back}
 
 module _ {w : ℕ} (wd : Width w) (b : List ℕ) (x : ℕ) where
-  -- the class that the header at offset x says
-  abbrev pub class : ℕ
-  class = classIn (shape w) (wordAt w b (itemAt (shape w) x))
-
-  none-slots : (d p : ℕ) (ss : List Slot) → index (shape w) ≤ p → Slots w b d p ss → (class ≡ d → ⊥) → times x (idleSlots (shape w) d p ss) ≡ 0
+  none-slots : (d p : ℕ) (ss : List Slot) → index (shape w) ≤ p → Slots w b d p ss → (class wd b x ≡ d → ⊥) → times x (idleSlots (shape w) d p ss) ≡ 0
   none-slots d p ss h s n = go (decLe 1 (times x (idleSlots (shape w) d p ss)))
     where
       go : Dec (1 ≤ times x (idleSlots (shape w) d p ss)) → times x (idleSlots (shape w) d p ss) ≡ 0
       go (yes i) = absurd (n (omega (arith, slots-header wd b d x p ss h s i)))
       go (no i) = omega arith
 
-  -- the free items at x of all classes are those of that class
-  free-class : (p prev : ℕ) (bs : List Block) → index (shape w) ≤ p → Reads w b p prev bs → times x (freeItems w p bs) ≡ times x (idleItems (shape w) class p bs)
+  -- the free items at x of all classes are those of its class
+  free-class : (p prev : ℕ) (bs : List Block) → index (shape w) ≤ p → Reads w b p prev bs → times x (freeItems w p bs) ≡ times x (idleItems (shape w) (class wd b x) p bs)
   unfolding Reads useKind Headers freeItems freeIn idleItems idleIn sizeOf
   free-class p prev [] h r = refl
   free-class p prev (free s ∷ bs) h r = free-class (p + s) p bs (omega arith) (r .1)
   free-class p prev (used (variable s) ∷ bs) h r = free-class (p + useSize (shape w) (variable s)) prev bs (omega arith) (r .1)
   free-class p prev (used (page d k ss) ∷ bs) h r =
       times-append x (idleSlots (shape w) d (firstItemAt (shape w) p) ss) (freeItems w (p + useSize (shape w) (page d k ss)) bs)
-      ∙ go (ℕ-discrete class d) (free-class (p + useSize (shape w) (page d k ss)) prev bs (omega arith) (r .1))
+      ∙ go (ℕ-discrete (class wd b x) d) (free-class (p + useSize (shape w) (page d k ss)) prev bs (omega arith) (r .1))
     where
       rest : List ℕ
-      rest = idleItems (shape w) class (p + useSize (shape w) (page d k ss)) bs
+      rest = idleItems (shape w) (class wd b x) (p + useSize (shape w) (page d k ss)) bs
 
-      go : Dec (class ≡ d) → times x (freeItems w (p + useSize (shape w) (page d k ss)) bs) ≡ times x rest
-          → times x (idleSlots (shape w) d (firstItemAt (shape w) p) ss) + times x (freeItems w (p + useSize (shape w) (page d k ss)) bs) ≡ times x (idleIn (shape w) class p (used (page d k ss)) ++ rest)
-      go (yes e) f = rw (eq-eqb class d e) (omega (arith, f, times-append x (idleSlots (shape w) d (firstItemAt (shape w) p) ss) rest))
-      go (no e) f = rw (ne-eqb class d e) (omega (arith, f, none-slots d (firstItemAt (shape w) p) ss (omega arith) (r .0 .2) e))
-
-  module _ (end : ℕ) where
-    none-chain : (c o : ℕ) (l : List ℕ) → Chain w b end c o l → (c ≡ class → ⊥) → times x l ≡ 0
-    none-chain c o l h n = go (decLe 1 (times x l))
-      where
-        go : Dec (1 ≤ times x l) → times x l ≡ 0
-        go (yes i) = absurd (n (omega (arith, chain-item wd b end c o x l h i .header)))
-        go (no i) = omega arith
-
-    -- and so are the items on all lists
-    flat-none : (c : ℕ) (ls : List (List ℕ)) → Chains w b end c ls → class < c → times x (flat ls) ≡ 0
-    unfolding Chains flat times
-    flat-none c [] k h = refl
-    flat-none c (l ∷ ls) k h = times-append x l (flat ls) ∙ omega (arith, flat-none (c + 1) ls (k .2) (omega arith), none-chain c (wordAt w b (headAt (shape w) c)) l (k .1) (λ e. omega arith))
-
-    flat-from : (c d : ℕ) (ls : List (List ℕ)) → Chains w b end c ls → c + d ≡ class → times x (flat ls) ≡ times x (getD ls d [])
-    unfolding Chains flat
-    flat-from c d [] k e = absurd (omega (arith, e, class-few wd (wordAt w b (itemAt (shape w) x))))
-    flat-from c zero (l ∷ ls) k e = times-append x l (flat ls) ∙ omega (arith, flat-none (c + 1) ls (k .2) (omega arith))
-    flat-from c (suc d) (l ∷ ls) k e = times-append x l (flat ls) ∙ omega (arith, flat-from (c + 1) d ls (k .2) (omega arith), none-chain c (wordAt w b (headAt (shape w) c)) l (k .1) (λ z. omega arith))
-
-    flat-class : (ls : List (List ℕ)) → Chains w b end 0 ls → times x (flat ls) ≡ times x (getD ls class [])
-    flat-class ls k = flat-from 0 class ls k (omega arith)
-
-    -- an item on the lists, and it is there once
-    pub flat-item : (ls : List (List ℕ)) → Chains w b end 0 ls → 1 ≤ times x (flat ls) → FreeItemAt w b end class x
-    flat-item ls k q = chain-item wd b end class (wordAt w b (headAt (shape w) class)) x (getD ls class []) (chains-at wd b end ls k class (class-few wd (wordAt w b (itemAt (shape w) x)))) (omega (arith, q, flat-class ls k))
-
-    pub flat-once : (ls : List (List ℕ)) → Chains w b end 0 ls → times x (flat ls) ≤ 1
-    flat-once ls k = omega (arith, flat-class ls k, chain-few wd b end class (wordAt w b (headAt (shape w) class)) x (getD ls class []) (chains-at wd b end ls k class (class-few wd (wordAt w b (itemAt (shape w) x)))))
+      go : Dec (class wd b x ≡ d) → times x (freeItems w (p + useSize (shape w) (page d k ss)) bs) ≡ times x rest
+          → times x (idleSlots (shape w) d (firstItemAt (shape w) p) ss) + times x (freeItems w (p + useSize (shape w) (page d k ss)) bs) ≡ times x (idleIn (shape w) (class wd b x) p (used (page d k ss)) ++ rest)
+      go (yes e) f = rw (eq-eqb (class wd b x) d e) (omega (arith, f, times-append x (idleSlots (shape w) d (firstItemAt (shape w) p) ss) rest))
+      go (no e) f = rw (ne-eqb (class wd b x) d e) (omega (arith, f, none-slots d (firstItemAt (shape w) p) ss (omega arith) (r .0 .2) e))
 
 module _ {w : ℕ} (wd : Width w) (b : List ℕ) (end : ℕ) (m : List ℕ) (walk : BlocksMarked w b end (start (shape w)) 0 false (wordAt w b (firstFreeAt (shape w))) [] m) where
   mark : (j : ℕ) → bitAt m j ≡ times (offsetAtBit w j) (freeItems w (start (shape w)) (walk .onward .rest))

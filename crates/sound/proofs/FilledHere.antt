@@ -14,10 +14,11 @@ use Rattle.model.specs.Layout.{Slot, idle, held, variable, page, Block, free, u
 use Rattle.model.specs.Sound.{times, AllowedUse, Allowed, AllAllowed, idleSlots, idleIn, idleItems, Here, Sound}
 use Rattle.model.proofs.pictures.Pictures.{shows-append}
 use Rattle.model.proofs.pictures.Drawn.{times-append}
-use Rattle.sound.specs.Onward.{Slots, useKind, Headers, Reads}
-use Rattle.sound.specs.Lists.{Chains, Filled}
-use Rattle.sound.specs.Told.{Fixed}
-use Rattle.sound.proofs.Chained.{chain-head, chain-next, chains-at, chains-length}
+use Rattle.marking.specs.Uses.{Slots, useKind, Headers}
+use Rattle.walking.specs.Onward.{Reads}
+use Rattle.visiting.specs.Lists.{Chains}
+use Rattle.sound.specs.Told.{Filled, Fixed}
+use Rattle.visiting.proofs.Chained.{chain-head, chain-next, chains-at, chains-length}
 
 module _ {w : ℕ} (wd : Width w) (b : List ℕ) (ls : List (List ℕ)) where
   -- the headers of free items are as the lists say

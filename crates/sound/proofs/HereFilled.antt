@@ -14,15 +14,17 @@ use Rattle.model.specs.Parts.{pageKind, tagOf, freeHeader, farTagAt, headAt, fi
 use Rattle.model.specs.Layout.{Slot, idle, held, variable, page, Block, free, used, Layout, headOf, nextOf, useSize, sizeOf, firstFree, header, slotWords, useWords, own, blockWords, headWords, fixedLow, fixedHigh, words}
 use Rattle.model.specs.Sound.{times, AllowedUse, Allowed, AllAllowed, idleItems, Here, Sound}
 use Rattle.model.proofs.pictures.Pictures.{shows-left, shows-right}
-use Rattle.sound.specs.Onward.{Slots, useKind, Headers, Reads}
-use Rattle.sound.specs.Lists.{FreeItemAt, named, Chain, Chains, Filled}
-use Rattle.sound.specs.Told.{Fixed}
 use Rattle.model.proofs.items.Offsets.{items-off, items-once}
 use Rattle.model.proofs.pictures.Shown.{blocks-shown, head-read, item-read}
 use Rattle.model.proofs.items.Aligned.{next-aligned}
-use Rattle.sound.proofs.Chained.{chains-of}
 use Rattle.model.proofs.Sizes.{start-eight}
-use Rattle.sound.proofs.Places.{idle-low, header-names}
+use Rattle.marking.specs.Uses.{Slots, useKind, Headers}
+use Rattle.walking.specs.Onward.{Reads}
+use Rattle.following.specs.Lists.{FreeItemAt, named, Chain}
+use Rattle.visiting.specs.Lists.{Chains}
+use Rattle.sound.specs.Told.{Filled, Fixed}
+use Rattle.visiting.proofs.Chained.{chains-of}
+use Rattle.marking.proofs.Places.{idle-low, header-names}
 
 module _ {w : ℕ} (wd : Width w) (b : List ℕ) (ls : List (List ℕ)) (aligned : (c x : ℕ) → c < shape w .classes → nextOf x (getD ls c []) % w ≡ 0) where
   slots-of : (c p : ℕ) (ss : List Slot) → c < shape w .classes → Shows w b (slotWords (shape w) c (getD ls c []) p ss) → Slots w b c p ss

@@ -12,7 +12,8 @@ use Rattle.model.specs.Parts.{classAndFlags, freeMark, firstItemAt}
 use Rattle.model.specs.Layout.{Slot, idle, held, variable, page, Block, free, used, useSize, sizeOf}
 use Rattle.model.specs.Sound.{times, idleSlots, idleIn, idleItems}
 use Rattle.model.proofs.pictures.Drawn.{times-append}
-use Rattle.sound.specs.Onward.{Slots, Headers, Reads}
+use Rattle.marking.specs.Uses.{Slots, Headers}
+use Rattle.walking.specs.Onward.{Reads}
 
 module _ {w : ℕ} (wd : Width w) where
   pub slots-header : (b : List ℕ) (c o p : ℕ) (ss : List Slot) → index (shape w) ≤ p → Slots w b c p ss → 1 ≤ times o (idleSlots (shape w) c p ss) → classAndFlags (shape w) (wordAt w b (itemAt (shape w) o)) ≡ freeMark c

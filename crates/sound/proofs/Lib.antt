@@ -1,12 +1,6 @@
-pub mod Places
-pub mod Tellings
-pub mod MapLaws
-pub mod PageLaws
-pub mod Walks
-pub mod Chained
+pub mod Agree
+pub mod FillLaws
 pub mod ItemHeaders
 pub mod FilledHere
 pub mod HereFilled
 pub mod OneLayout
-pub mod Agree
-pub mod Counting

@@ -11,13 +11,14 @@ use Rattle.model.specs.Layout.{Slot, idle, held, Use, variable, page, Block, fr
 use Rattle.model.specs.Sound.{AllowedUse, Allowed, AllAllowed}
 use Rattle.model.specs.Promises.{OneLayout}
 use Rattle.model.proofs.blocks.Blocks.{le-ends}
-use Rattle.sound.specs.Onward.{Slots, useKind, Headers, Reads}
-use Rattle.sound.proofs.PageLaws.{page-class}
-use Rattle.sound.proofs.Walks.{use-size, use-kind}
-use Rattle.sound.proofs.Chained.{same-chains}
-use Rattle.sound.proofs.HereFilled.{here-reads, here-chains}
 use Rattle.words.specs.Word.{wordAt}
-use Rattle.sound.proofs.Places.{not-both}
+use Rattle.marking.specs.Uses.{Slots, useKind, Headers}
+use Rattle.walking.specs.Onward.{Reads}
+use Rattle.marking.proofs.PageLaws.{page-class}
+use Rattle.walking.proofs.Walks.{use-size, use-kind}
+use Rattle.visiting.proofs.Chained.{same-chains}
+use Rattle.sound.proofs.HereFilled.{here-reads, here-chains}
+use Rattle.marking.proofs.Places.{not-both}
 
 module _ {w : ℕ} (wd : Width w) where
   slots-one : (b : List ℕ) (c p : ℕ) (ss ts : List Slot) → length ss ≡ length ts → Slots w b c p ss → Slots w b c p ts → ss ≡ ts

@@ -1,16 +1,4 @@
 // The check of a heap: one walk over its blocks that marks the free items in a map of bits, and one pass over the item lists that counts the marked items.
-pub mod blocks;
-pub mod lists;
-pub mod map;
-pub mod pages;
-
-use crate::blocks::Passed;
-use crate::blocks::Stand;
-use crate::blocks::Walk;
-use crate::blocks::mark_blocks;
-use crate::blocks::pass_blocks;
-use crate::lists::count_lists;
-use crate::lists::no_lists;
 use model::MAGIC_BYTES;
 use model::Position;
 use model::data_at;
@@ -24,6 +12,13 @@ use model::index_tag;
 use model::index_tag_at;
 use model::magic;
 use model::start;
+use visiting::count_lists;
+use visiting::no_lists;
+use walking::Passed;
+use walking::Stand;
+use walking::Walk;
+use walking::mark_blocks;
+use walking::pass_blocks;
 use words::bits::spread;
 use words::word;
 ghost use mathlib.Core.Path.{_≡_};
@@ -34,10 +29,11 @@ ghost use Rattle.words.specs.Width.{Width};
 ghost use Rattle.model.specs.Shape.{shape, start, endOf};
 ghost use Rattle.model.specs.Sound.{Sound};
 ghost use Rattle.model.specs.Calls.{Lent};
-ghost use Rattle.sound.specs.Tells.{Tells};
-ghost use Rattle.sound.specs.Lists.{Filled};
-ghost use Rattle.sound.specs.Maps.{smallMap, middleMap};
-ghost use Rattle.sound.specs.Told.{Fixed, MapSize, Halted, FillTold};
+ghost use Rattle.telling.specs.Tells.{Tells};
+ghost use Rattle.marking.specs.Maps.{smallMap, middleMap};
+ghost use Rattle.marking.specs.Told.{MapSize};
+ghost use Rattle.walking.specs.Told.{Halted};
+ghost use Rattle.sound.specs.Told.{Fixed, Filled, FillTold};
 
 // What a map was enough for: it is told whether blocks and lists are right, or the walk stands at a page that reaches beyond the map.
 enum Filling {

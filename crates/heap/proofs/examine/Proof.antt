@@ -2,7 +2,7 @@ use mathlib.Core.Path.{sym, _∙_}
 use Rattle.model.proofs.Sizes.{eight}
 use borrow.Author.Tests.{not-true, not-false}
 use native.Mathlib.Omega.{arith}
-use Rattle.sound.proofs.Tellings.{clash}
+use Rattle.telling.proofs.Tellings.{clash}
 use Rattle.heap.proofs.Examining.{examined-length, examined-word, examined-unsound, examined-fine}
 use borrow.Author.Needs.{needs}
 use Rattle.heap.proofs.examine.Statement.{statement}

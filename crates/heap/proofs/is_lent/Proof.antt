@@ -2,7 +2,7 @@ use borrow.Author.Tests.{leb-true, le-leb}
 use borrow.Author.Needs.{needs}
 use native.Mathlib.Omega.{arith}
 use lib.ListN.{length}
-use Rattle.sound.proofs.Tellings.{tells-no}
+use Rattle.telling.proofs.Tellings.{tells-no}
 use Rattle.heap.proofs.is_lent.Statement.{statement}
 use Rattle.heap.proofs.is_lent.Tie as tie
 use Rattle.heap.proofs.is_lent.Reads as reads

@@ -1,7 +1,7 @@
 use borrow.Author.Needs.{needs}
 use borrow.Author.Tests.{leb-true, le-leb}
 use native.Mathlib.Omega.{arith}
-use Rattle.sound.proofs.Tellings.{tells-no}
+use Rattle.telling.proofs.Tellings.{tells-no}
 use Rattle.heap.proofs.is_size.Statement.{statement}
 use Rattle.heap.proofs.is_size.Tie as tie
 use Rattle.heap.proofs.is_size.Reads as reads

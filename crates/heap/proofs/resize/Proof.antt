@@ -1,5 +1,5 @@
 use borrow.Author.Tests.{not-true, not-false}
-use Rattle.sound.proofs.Tellings.{clash}
+use Rattle.telling.proofs.Tellings.{clash}
 use Rattle.heap.proofs.Allocating.{bad-size}
 use Rattle.heap.proofs.Resizing.{resizes}
 use Rattle.heap.proofs.Examining.{refuses, decides, ready}

@@ -1,11 +1,12 @@
-use Rattle.sound.proofs.Walks.{stood-end, stood-open, fill-told, fill-beyond}
+use Rattle.walking.proofs.Walks.{stood-end, stood-open, link-room}
+use Rattle.sound.proofs.FillLaws.{fill-told, fill-beyond}
 use Rattle.sound.proofs.Agree.{end-clear, agree-filled, agree-listed}
-use Rattle.sound.proofs.Places.{link-room}
-use Rattle.sound.proofs.Tellings.{tells-no, tells-so}
+use Rattle.telling.proofs.Tellings.{tells-no, tells-so}
 use Rattle.words.specs.Word.{wordAt}
 use Rattle.model.specs.Shape.{shape, start, endOf}
 use Rattle.model.specs.Parts.{firstFreeAt}
-use Rattle.sound.specs.Told.{MapSize, BlocksMarked, StoodAt, WalkTold}
+use Rattle.marking.specs.Told.{MapSize}
+use Rattle.walking.specs.Told.{BlocksMarked, StoodAt, WalkTold}
 use mathlib.Core.Bool.{false}
 use mathlib.Core.List.{[]}
 use mathlib.Core.Path.{_≡_, sym, _∙_}

@@ -1,12 +1,13 @@
-use Rattle.sound.proofs.Walks.{stood-start, stood-end, stood-open}
+use Rattle.sound.proofs.FillLaws.{stood-start}
+use Rattle.walking.proofs.Walks.{stood-end, stood-open, link-room}
 use Rattle.sound.proofs.Agree.{agree-filled, agree-listed}
-use Rattle.sound.proofs.Places.{link-room}
-use Rattle.sound.proofs.Tellings.{tells-no, tells-so}
+use Rattle.telling.proofs.Tellings.{tells-no, tells-so}
 use Rattle.words.specs.Word.{wordAt}
 use Rattle.model.specs.Shape.{shape, start, endOf}
 use Rattle.model.specs.Parts.{firstFreeAt}
 use Rattle.model.proofs.Sizes.{end-room}
-use Rattle.sound.specs.Told.{Sizes, BlocksMarked, Stood, StoodAt, HaltsIn, PassTold}
+use Rattle.marking.specs.Told.{Sizes}
+use Rattle.walking.specs.Told.{BlocksMarked, Stood, StoodAt, HaltsIn, PassTold}
 use mathlib.Core.Bool.{false}
 use mathlib.Core.List.{[]}
 use mathlib.Core.Path.{sym, _∙_}

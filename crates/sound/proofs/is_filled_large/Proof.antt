@@ -1,6 +1,6 @@
-use Rattle.sound.proofs.Walks.{halted-same, large-enough}
+use Rattle.sound.proofs.FillLaws.{halted-same, large-enough}
 use Rattle.words.proofs.BitLaws.{zeros-clear}
-use Rattle.sound.specs.Maps.{largeMap}
+use Rattle.marking.specs.Maps.{largeMap}
 use native.Mathlib.Omega.{arith}
 use borrow.Author.Needs.{needs}
 use Rattle.sound.proofs.is_filled_large.Statement.{statement}

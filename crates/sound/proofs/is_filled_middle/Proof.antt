@@ -1,6 +1,6 @@
-use Rattle.sound.proofs.Walks.{halted-same}
+use Rattle.sound.proofs.FillLaws.{halted-same}
 use Rattle.words.proofs.BitLaws.{zeros-clear}
-use Rattle.sound.specs.Maps.{middleMap}
+use Rattle.marking.specs.Maps.{middleMap}
 use native.Mathlib.Omega.{arith}
 use borrow.Author.Needs.{needs}
 use Rattle.sound.proofs.is_filled_middle.Statement.{statement}

@@ -1,6 +1,6 @@
-use Rattle.sound.proofs.Walks.{halted-same}
+use Rattle.sound.proofs.FillLaws.{halted-same}
 use Rattle.words.proofs.BitLaws.{zeros-clear, beyond-clear}
-use Rattle.sound.specs.Maps.{smallMap}
+use Rattle.marking.specs.Maps.{smallMap}
 use mathlib.Core.List.{[]}
 use mathlib.Core.Path.{sym, _∙_}
 use native.Mathlib.Omega.{arith}

@@ -1,6 +1,6 @@
-use Rattle.sound.proofs.Places.{read-at}
+use Rattle.telling.proofs.WordsRead.{read-at}
 use native.Mathlib.Omega.{arith}
-use Rattle.sound.proofs.Tellings.{tells-no, tells-eq}
+use Rattle.telling.proofs.Tellings.{tells-no, tells-eq}
 use mathlib.Core.Path.{sym, _∙_}
 use borrow.Author.Needs.{needs}
 use Rattle.sound.proofs.is_fixed.Statement.{statement}

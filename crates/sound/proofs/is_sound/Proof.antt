@@ -1,6 +1,6 @@
 use Rattle.sound.proofs.HereFilled.{sound-fixed, sound-filled}
 use Rattle.sound.proofs.FilledHere.{sound-of}
-use Rattle.sound.proofs.Tellings.{clash, tells-no, tells-so}
+use Rattle.telling.proofs.Tellings.{clash, tells-no, tells-so}
 use Rattle.sound.specs.Told.{Fixed}
 use Rattle.model.specs.Shape.{endOf}
 use borrow.Author.Tests.{not-true, not-false}

@@ -1,0 +1,4 @@
+pub mod Places
+pub mod MapLaws
+pub mod Counts
+pub mod PageLaws

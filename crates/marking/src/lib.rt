@@ -1,0 +1,3 @@
+// The marks of free items: the map of bits that they stand in, and the marking of a page's items.
+pub mod map;
+pub mod pages;
