@@ -3,8 +3,10 @@ use marking::map::Marks;
 use marking::map::at_bit;
 use marking::map::offset_bit;
 use model::ItemOffset;
+use model::class_and_flags;
 use model::free_mark;
 use model::head_at;
+use model::next_in;
 use std::num::wrapping_sub_usize;
 use words::bits;
 use words::word;
@@ -16,14 +18,16 @@ ghost use Rattle.model.specs.Shape.{shape, endOf};
 ghost use Rattle.model.specs.Parts.{headAt};
 ghost use Rattle.following.specs.Told.{NextBit, ListRoom, ListTold};
 
+// What class and flags are moved up by: 2^57, by which the seven bits that they have become the highest of 64.
+const HIGHEST: usize = 144115188075855872;
+
 // The bit of the item that the header x names. Where x is not a free item's of class c, class and flags of the difference become the highest bits, so that the answer is far beyond every map: one comparison tells both.
 fn next_bit(w: usize, x: usize, c: usize) -> usize
     requires { ⌜ Width w × (c < shape w .classes) ⌝ }
     ensures { λ r. ⌜ NextBit w x c r ⌝ }
 {
     let y = wrapping_sub_usize(x, free_mark(c));
-    let low = 16 * w;
-    y / low + y % low * 144115188075855872
+    offset_bit(w, next_in(w, y)) + class_and_flags(w, y) * HIGHEST
 }
 
 // Counts down from before by the items on the list of class c: refuses an item without a mark, and an item more than there are marks, so a ring too.

@@ -6,6 +6,7 @@ use model::kind_in;
 use model::least_free;
 use model::least_variable;
 use model::previous_at;
+use model::size_in;
 use std::num::wrapping_sub_usize;
 use words::word;
 ghost use mathlib.Core.Path.{_≡_};
@@ -20,13 +21,16 @@ ghost use Rattle.telling.specs.Tells.{Tells};
 ghost use Rattle.telling.specs.Neighbours.{touches};
 ghost use Rattle.telling.specs.Told.{SizeIf, FreeSpot};
 
+// What a kind is moved up by: 2^61, by which its three bits become the highest of 64.
+const HIGHEST: usize = 2305843009213693952;
+
 // The size that the tag t says, in eights of bytes, where it says this kind. Where it says another, the difference of the kinds becomes the highest bits, so that the answer is more than any heap has: one comparison tells both.
 pub fn eights(t: usize, kind: usize) -> usize
     requires { ⌜ kind < 8 ⌝ }
     ensures { λ r. ⌜ SizeIf t kind r ⌝ }
 {
     let y = wrapping_sub_usize(t, kind);
-    y / 8 + y % 8 * 2305843009213693952
+    size_in(y) / 8 + kind_in(y) * HIGHEST
 }
 
 // The tag right before p: that of the block that ends there.
