@@ -1,5 +1,6 @@
 // The check of a heap: one walk over its blocks that marks the free items in a map of bits, and one pass over the item lists that counts the marked items.
 use model::MAGIC_BYTES;
+use model::PAGE;
 use model::Position;
 use model::data_at;
 use model::end_at;
@@ -10,6 +11,7 @@ use model::index_at;
 use model::index_far_tag_at;
 use model::index_tag;
 use model::index_tag_at;
+use model::kind_in;
 use model::magic;
 use model::start;
 use visiting::count_lists;
@@ -23,10 +25,11 @@ use words::bits::spread;
 use words::word;
 ghost use mathlib.Core.Path.{_≡_};
 ghost use mathlib.Core.List.{[]};
-ghost use Prim.Native.Nat.{_≤_};
+ghost use Prim.Native.Nat.{_-_, _/_, _≤_};
 ghost use lib.ListN.{length};
 ghost use Rattle.words.specs.Width.{Width};
 ghost use Rattle.model.specs.Shape.{shape, start, endOf};
+ghost use Rattle.model.specs.Parts.{firstFreeAt};
 ghost use Rattle.model.specs.Sound.{Sound};
 ghost use Rattle.model.specs.Calls.{Lent};
 ghost use Rattle.telling.specs.Tells.{Tells};
@@ -104,20 +107,30 @@ fn is_filled_small(w: usize, h: &[u8], from: Stand) -> bool
     }
 }
 
-// Whether blocks and lists are right: without a map, up to the first page.
-fn is_filled(w: usize, h: &[u8], end: Position) -> bool
-    requires { ⌜ Width w × Lent (shape w) (now h) × (end .0 ≡ endOf (length (now h))) × Fixed w (now h) (end .0) ⌝ }
-    ensures { λ r. ⌜ Tells r (Filled w (now (h .entry)) (end .0)) ⌝ }
+// Where a walk begins.
+fn begin(w: usize, end: Position) -> Stand
+    requires { ⌜ Width w × (start (shape w) ≤ end .0) ⌝ }
+    ensures { λ r. ⌜ (r .at .0 ≡ start (shape w)) × (r .left ≡ (end .0 - start (shape w)) / 8) × (r .prev .0 ≡ 0) × (r .link .0 ≡ firstFreeAt (shape w)) × (r .marks ≡ 0) ⌝ }
 {
     let at = start(w);
-    let from = Stand {
+    Stand {
         at: at,
         left: (end.0 - at.0) / 8,
         prev: Position(0),
         link: first_free_at(w),
         marks: 0,
-    };
-    let Passed::To(s) = pass_blocks(w, h, from) else {
+    }
+}
+
+// Whether blocks and lists are right: without a map, up to the first page. Where that is the first block, at once with one: so the compiler keeps the maps out of the frame of a check that needs none.
+fn is_filled(w: usize, h: &[u8], end: Position) -> bool
+    requires { ⌜ Width w × Lent (shape w) (now h) × (end .0 ≡ endOf (length (now h))) × Fixed w (now h) (end .0) ⌝ }
+    ensures { λ r. ⌜ Tells r (Filled w (now (h .entry)) (end .0)) ⌝ }
+{
+    if kind_in(word(w, h, start(w).0)) == PAGE {
+        return is_filled_small(w, h, begin(w, end));
+    }
+    let Passed::To(s) = pass_blocks(w, h, begin(w, end)) else {
         return false;
     };
     if s.left != 0 {
