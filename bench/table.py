@@ -4,7 +4,7 @@
   table.py --library FILE.. [--prefix NAME] [--sizes LIST]
 
 Prints a Markdown table, how each count grows with the heap, the library's size,
-and last the worst ratio of all rows; the status is 1 if a row is over the limit.
+and last the worst ratio of all rows; the status is 1 if that is over the limit.
 All that is built or fetched goes below target/. "--prefix twin_" without a
 library puts the twin on both sides.
 """
@@ -23,10 +23,7 @@ from second import CLASSES, NO_ROOM, VARIABLE, Heap  # noqa: E402
 PRODUCTS = os.path.join(ROOT, "target", "bench")
 CALLS = ("initialise", "check", "allocate", "resize", "free")
 SIZES = (10000, 65536, 1048576)
-# A call may take so many times the twin's instructions; or so many more, where these are few: what a frame takes, and an
-# answer that is handed back through memory.
-LIMIT = 1.05
-SLACK = 16
+LIMIT = 1.05  # no call may take more instructions than so many times the twin's
 
 
 def fresh(length):
@@ -227,17 +224,16 @@ def main():
     os.makedirs(PRODUCTS, exist_ok=True)
     program = build(chosen.library, chosen.prefix)
     print("| heap | call | ours | twin | ratio |\n|---|---|---:|---:|---:|")
-    counts, worst, where, over = {}, 0, "", 0
+    counts, worst, where = {}, 0, ""
     for length, kind, name, ours, twin in rows(program, map(int, chosen.sizes.split(","))):
         counts.setdefault((kind, name), {})[length] = ours
         print(f"| {length:,}, {kind} | {name} | {ours:,} | {twin:,} | {ours / twin:.2f} |", flush=True)
         worst, where = max((worst, where), (ours / twin, f"{name}, {length:,}, {kind}"))
-        over += ours > max(LIMIT * twin, twin + SLACK)
     print_growth(counts)
     for library in chosen.library:
         print(f"\n{os.path.basename(library)}: {os.path.getsize(library):,} bytes")
-    print(f"\nworst ratio: {worst:.3f} ({where}); {over} rows are over {LIMIT} by more than {SLACK} instructions")
-    return 1 if over else 0
+    print(f"\nworst ratio: {worst:.3f} ({where}); the limit is {LIMIT}")
+    return 1 if worst > LIMIT else 0
 
 
 if __name__ == "__main__":
