@@ -104,9 +104,17 @@ static uint64_t item_size(uint64_t class)
     return 8 * class + 16;
 }
 
+/* The items of a page of each class: 4,096 divided by the item's size, and one more. */
+static const uint16_t page_items[CLASSES] = {
+    257, 171, 129, 103, 86, 74, 65, 57,
+    52, 47, 43, 40, 37, 35, 33, 31,
+    29, 27, 26, 25, 24, 23, 22, 21,
+    20, 19, 19, 18, 18, 17, 17, 16,
+};
+
 static uint64_t items_in_page(uint64_t class)
 {
-    return 4096 / item_size(class) + 1;
+    return page_items[class];
 }
 
 static uint64_t class_in(uint64_t header)
@@ -194,15 +202,16 @@ static bool page_right(const uint8_t *h, uint64_t page, uint64_t words, struct m
 
     if (words - 2 - need > 3)
         return false;
-    for (; bit < stop; bit += step) {
+    do {
         uint64_t header = get(h, INDEX_PAGE + 8 * bit);
         if (header == used) {
             count--;
-            continue;
+        } else {
+            wrong |= header ^ free;
+            marks->map[(uint32_t)bit / 64] |= (uint64_t)1 << bit % 64;
         }
-        wrong |= header ^ free;
-        marks->map[(uint32_t)bit / 64] |= (uint64_t)1 << bit % 64;
-    }
+        bit += step;
+    } while (bit < stop);
     marks->count = count;
     return wrong % 128 == 0;
 }

@@ -3,6 +3,7 @@ use model::Address;
 use model::address_of;
 use model::class_of;
 use model::head_at;
+use model::items_in_page;
 use model::largest_item;
 use model::need_of;
 use model::page_need;
@@ -26,11 +27,12 @@ fn an_item(w: usize, h: &mut [u8], c: usize) -> Taken
     if word(w, h, head_at(w, c).0) != 0 {
         return Taken::At(items::take(w, h, c));
     }
-    let p = fitting::find_fit(w, h, page_need(w, c));
+    let n = items_in_page(w, c);
+    let p = fitting::find_fit(w, h, page_need(w, c, n));
     if p.0 == 0 {
         return Taken::NoRoom;
     }
-    pages::make(w, h, p, c);
+    pages::make(w, h, p, c, n);
     Taken::At(items::take(w, h, c))
 }
 

@@ -3,7 +3,8 @@ use Prim.Native.Nat.{ℕ, zero, suc, _+_, _-_, _*_, _/_, _%_, _^_, _≤_, _<_}
 use mathlib.Core.Path.{_≡_, refl, sym, ap, subst, _∙_}
 use mathlib.Core.List.{List, [], _∷_}
 use native.Mathlib.Omega.{arith}
-use native.Mathlib.Decide.{ℕ-discrete}
+use native.Mathlib.Decide.{ℕ-discrete, decLe}
+use native.Mathlib.Nat.{mul-le-mul-right}
 use lib.ListN.{length}
 use lib.Bits.{bitOr}
 use Rattle.words.specs.Width.{Width}
@@ -13,7 +14,7 @@ use Rattle.model.specs.Shape.{shape, itemSize, index, offsetOf, leastFree, leas
 use Rattle.model.specs.Parts.{variableKind, pageKind, freeMark, heldHeader, classAndFlags, classIn, firstItemAt}
 use Rattle.model.specs.Layout.{Slot, idle, held, Use, variable, page, used, useSize, sizeOf}
 use Rattle.model.specs.Sound.{Allowed, AllowedUse, idleSlots}
-use Rattle.model.proofs.Sizes.{per-page-bound, page-product, class-few, class-held, page-eight, first-even}
+use Rattle.model.proofs.Sizes.{per-page-bound, page-items-bound, page-product, class-few, class-held, page-eight, first-even}
 use Rattle.model.proofs.walks.Standing.{sizes}
 use Rattle.marking.specs.Uses.{Slots, Items, useKind, Headers, UseAt, freeIn}
 use Rattle.marking.specs.Maps.{NoMarks, offsetBit, atBit, mapEnd}
@@ -69,9 +70,17 @@ pub record ItemsInv (w : ℕ) (b m₀ : List ℕ) (first stop c : ℕ) (m : List
   pub map : atBit w stop ≤ mapEnd w (length m)
   pub size : length m ≡ length m₀
 
-pub items-start : {w : ℕ} {b m : List ℕ} {i stop c before : ℕ} (n : ℕ) → n ≡ before + shape w .perPage c → MarkRoom w b m i stop c before → ItemsInv w b m i stop c m n 0 i
-items-start {w} n e r =
-    record { width = r .width; left = _; stops = r .stops; ahead = λ i. i; back = λ _ m′ i. i; bad = λ f. absurd (f (no-flags (r .width))); marks = _; all = e; marking = r .marking; map = r .map; size = refl }
+pub items-start : {w : ℕ} {b m : List ℕ} {i stop c n : ℕ} → MarkRoom w b m i stop c n → ItemsInv w b m i stop c m n 0 i
+items-start r =
+    record { width = r .width; left = _; stops = r .stops; ahead = λ i. i; back = λ _ m′ i. i; bad = λ f. absurd (f (no-flags (r .width))); marks = _; all = r .most; marking = r .marking; map = r .map; size = refl }
+
+-- there is a first item
+pub items-first : {w : ℕ} {b m : List ℕ} {i stop c n : ℕ} → MarkRoom w b m i stop c n → i < stop
+items-first {w} {i = i} {stop = stop} {c = c} r = go (decLe stop i)
+  where
+    go : Dec (stop ≤ i) → i < stop
+    go (yes h) = absurd (omega (arith, bits-order (r .width) stop i h, r .stops, mul-le-mul-right (itemSize (shape w) c) (per-page-bound (r .width) c .0)))
+    go (no h) = omega (arith, h)
 
 one-less : (m : ℕ) → (m ≡ 0 → ⊥) → m - 1 + 1 ≡ m
 one-less zero z = absurd (z refl)
@@ -264,13 +273,15 @@ module _ {w : ℕ} {b m : List ℕ} {p s n : ℕ} (room : PageRoom w b m p s n) 
   few : c < shape w .classes
   few = rw ec (class-few (room .width) x)
 
-  pub page-small : s < k → (m′ : List ℕ) → PageTold w b m p s Unsound m′
-  page-small h m′ = record { is-no = λ _ u. omega (arith, is-page u .least-size, ek); is-yes = λ n y. absurd (no-count y) }
+  -- d is what the page has to spare, or beyond every heap where it is too short
+  module _ (d : ℕ) (ed : (d + k) % 2 ^ 64 ≡ s) (low : d < 2 ^ 64) where
+    pub page-misfit : leastFree (shape w) ≤ d → (m′ : List ℕ) → PageTold w b m p s Unsound m′
+    page-misfit h m′ = record { is-no = λ _ u. omega (arith, is-page u .least-size, is-page u .most-size, ek); is-yes = λ n y. absurd (no-count y) }
 
-  pub page-large : k + leastFree (shape w) ≤ s → (m′ : List ℕ) → PageTold w b m p s Unsound m′
-  page-large h m′ = record { is-no = λ _ u. omega (arith, is-page u .most-size, ek); is-yes = λ n y. absurd (no-count y) }
+    pub page-fits : d < leastFree (shape w) → (k ≤ s) × (s < k + leastFree (shape w))
+    page-fits h = omega (arith, ek, page-items-bound (room .width) c few)
 
-  -- its k items of size z, each of z / w words, go from bit i to bit i + n * (z / w)
+  -- its items of size z go from bit i to bit i + items * z / w
   module _ (items z : ℕ) (ei : items ≡ shape w .perPage c) (ez : z ≡ itemSize (shape w) c) where
     pub page-taken : 2 * w + items * z ≡ k
     page-taken = page-product (room .width) c items z few ei ez .1 ∙ sym ek
@@ -279,13 +290,13 @@ module _ {w : ℕ} {b m : List ℕ} {p s n : ℕ} (room : PageRoom w b m p s n) 
       from : atBit w i ≡ q
       from = first-bit (room .width) q o i (rw eq (first-even (room .width) p (room .eight))) (omega (arith, eq, room .low)) eo eb
 
-      to : atBit w (i + items * (z / w)) ≡ q + items * z
+      to : atBit w (i + items * z / w) ≡ q + items * z
       to = bits-stop (room .width) i q items z c ez from
 
-      pub page-stop : i + items * (z / w) < 2 ^ 32
-      page-stop = omega (arith, bit-least (room .width) (i + items * (z / w)), to, eq, page-taken, room .map, map-end-bound (room .width) (length m) (room .size .few))
+      pub page-stop : i + items * z / w < 2 ^ 32
+      page-stop = omega (arith, bit-least (room .width) (i + items * z / w), to, eq, page-taken, room .map, map-end-bound (room .width) (length m) (room .size .few))
 
-      pub page-room : MarkRoom w b m i (i + items * (z / w)) c n
+      pub page-room : MarkRoom w b m i (i + items * z / w) c (n + items)
       page-room =
           record {
             width = room .width;
@@ -295,10 +306,12 @@ module _ {w : ℕ} {b m : List ℕ} {p s n : ℕ} (room : PageRoom w b m p s n) 
             inside = rw to (omega (arith, eq, page-taken, room .inside));
             map = rw to (omega (arith, eq, page-taken, room .map));
             size = room .size;
+            before = n;
+            most = rw ei refl;
             marking = rw from (marking-on (omega arith) (room .marking));
           }
 
-      pub page-told : s < k + leastFree (shape w) → (r : Marks) (m′ : List ℕ) → ItemsTold w b m i (i + items * (z / w)) c r m′ → PageTold w b m p s r m′
+      pub page-told : s < k + leastFree (shape w) → (r : Marks) (m′ : List ℕ) → ItemsTold w b m i (i + items * z / w) c r m′ → PageTold w b m p s r m′
       page-told h r m′ t =
           record {
             is-no = λ y u. t .is-no y (rw (from, eq) (is-page u .items));

@@ -1,6 +1,7 @@
 -- The places of items, as positions, offsets and bits of the map: what holds at both word sizes.
 use Prim.Native.Nat.{ℕ, zero, suc, _+_, _*_, _/_, _%_, _^_, _≤_, _<_}
-use mathlib.Core.Path.{_≡_, refl, ap, _∙_}
+use mathlib.Core.Path.{_≡_, refl, ap, sym, _∙_}
+use native.Mathlib.Nat.{mul-assoc, mul-div-cancel}
 use native.Mathlib.Omega.{arith}
 use lib.Bits.{bitOr, or-mod, or-add-and, and-le-l, and-le-r}
 use Rattle.words.specs.Width.{Width}
@@ -65,10 +66,19 @@ module _ {w : ℕ} (wd : Width w) where
     pub bit-step : (c s : ℕ) → s ≡ itemSize (shape w) c / w → atBit w (i + s) ≡ atBit w i + itemSize (shape w) c
     bit-step c s = widths (λ w. s ≡ itemSize (shape w) c / w → atBit w (i + s) ≡ atBit w i + itemSize (shape w) c) (omega arith) (omega arith) w wd
 
+  -- the words of n items of class c are n times those of one
+  words-of : (n z c : ℕ) → z ≡ itemSize (shape w) c → n * z / w ≡ n * (z / w)
+  words-of n z c e =
+      let whole : z / w * w ≡ z = rw e (widths (λ w. itemSize (shape w) c / w * w ≡ itemSize (shape w) c) (omega arith) (omega arith) w wd) in
+      ap (λ (x : ℕ). x / w) (ap (λ (x : ℕ). n * x) (sym whole) ∙ sym (mul-assoc n (z / w) w)) ∙ mul-div-cancel (n * (z / w)) (omega (arith, wd .least))
+
+  bits-each : (i q n z c : ℕ) → z ≡ itemSize (shape w) c → atBit w i ≡ q → atBit w (i + n * (z / w)) ≡ q + n * z
+  bits-each i q zero z c e f = omega (arith, f)
+  bits-each i q (suc n) z c e f = omega (arith, f, bits-each i q n z c e f, bit-step (i + n * (z / w)) c (z / w) (ap (λ (x : ℕ). x / w) e))
+
   -- the bit behind n items of class c
-  pub bits-stop : (i q n z c : ℕ) → z ≡ itemSize (shape w) c → atBit w i ≡ q → atBit w (i + n * (z / w)) ≡ q + n * z
-  bits-stop i q zero z c e f = omega (arith, f)
-  bits-stop i q (suc n) z c e f = omega (arith, f, bits-stop i q n z c e f, bit-step (i + n * (z / w)) c (z / w) (ap (λ (x : ℕ). x / w) e))
+  pub bits-stop : (i q n z c : ℕ) → z ≡ itemSize (shape w) c → atBit w i ≡ q → atBit w (i + n * z / w) ≡ q + n * z
+  bits-stop i q n z c e f = ap (λ (x : ℕ). atBit w (i + x)) (words-of n z c e) ∙ bits-each i q n z c e f
 
   -- the bit of the item whose header is at q
   pub first-bit : (q o i : ℕ) → q % w ≡ 0 → index (shape w) ≤ q → o ≡ offsetOf (shape w) q → i ≡ offsetBit w o → atBit w i ≡ q

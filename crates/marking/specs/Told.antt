@@ -30,7 +30,7 @@ pub record Marking (w : ℕ) (m : List ℕ) (n p : ℕ) : Type 0 where
   pub clear : NoMarks w m p
   pub few : n ≤ p
 
--- a page's items of class c from bit i to bit stop
+-- a page's items of class c from bit i to bit stop; where none of them is in use there are n marks
 pub record MarkRoom (w : ℕ) (b m : List ℕ) (i stop c n : ℕ) : Type 0 where
   pub width : Width w
   pub class : c < shape w .classes
@@ -39,7 +39,9 @@ pub record MarkRoom (w : ℕ) (b m : List ℕ) (i stop c n : ℕ) : Type 0 where
   pub inside : atBit w stop + w ≤ length b
   pub map : atBit w stop ≤ mapEnd w (length m)
   pub size : MapSize (length m)
-  pub marking : Marking w m n (atBit w i)
+  pub before : ℕ
+  pub most : n ≡ before + shape w .perPage c
+  pub marking : Marking w m before (atBit w i)
 
 -- n items of class c from q on, of which the free ones are marked in m′ beyond what m has
 pub record ItemsMarked (w : ℕ) (b : List ℕ) (c q n : ℕ) (m m′ : List ℕ) : Type 0 where

@@ -1,3 +1,4 @@
+pub mod Tables
 pub mod Sizes
 pub mod Good
 pub mod pictures

@@ -296,20 +296,56 @@ pub fn item_capacity(w: usize, c: usize) -> usize
     8 * c + 8
 }
 
+// The page sizes of document 01's heap, printed for whoever reads the listing: how many items a page has, its class, and what an item takes with its header.
+const PAGE_ITEMS: [u16; MOST_CLASSES] = [
+    257, // class  0, items of  16 bytes
+    171, // class  1, items of  24 bytes
+    129, // class  2, items of  32 bytes
+    103, // class  3, items of  40 bytes
+    86, //  class  4, items of  48 bytes
+    74, //  class  5, items of  56 bytes
+    65, //  class  6, items of  64 bytes
+    57, //  class  7, items of  72 bytes
+    52, //  class  8, items of  80 bytes
+    47, //  class  9, items of  88 bytes
+    43, //  class 10, items of  96 bytes
+    40, //  class 11, items of 104 bytes
+    37, //  class 12, items of 112 bytes
+    35, //  class 13, items of 120 bytes
+    33, //  class 14, items of 128 bytes
+    31, //  class 15, items of 136 bytes
+    29, //  class 16, items of 144 bytes
+    27, //  class 17, items of 152 bytes
+    26, //  class 18, items of 160 bytes
+    25, //  class 19, items of 168 bytes
+    24, //  class 20, items of 176 bytes
+    23, //  class 21, items of 184 bytes
+    22, //  class 22, items of 192 bytes
+    21, //  class 23, items of 200 bytes
+    20, //  class 24, items of 208 bytes
+    19, //  class 25, items of 216 bytes
+    19, //  class 26, items of 224 bytes
+    18, //  class 27, items of 232 bytes
+    18, //  class 28, items of 240 bytes
+    17, //  class 29, items of 248 bytes
+    17, //  class 30, items of 256 bytes
+    16, //  class 31, items of 264 bytes
+];
+
 // The items of a page of class c. No other place works this out.
 pub fn items_in_page(w: usize, c: usize) -> usize
     requires { ⌜ Width w × (c < shape w .classes) ⌝ }
     ensures { λ r. ⌜ r ≡ shape w .perPage c ⌝ }
 {
-    if w == 8 { 4096 / (8 * c + 16) + 1 } else { 2 }
+    if w == 8 { PAGE_ITEMS[c] as usize } else { 2 }
 }
 
-// The least size of a page of class c.
-pub fn page_need(w: usize, c: usize) -> usize
-    requires { ⌜ Width w × (c < shape w .classes) ⌝ }
+// The least size of a page of class c, of the n items that the table says: who needs both reads the table once.
+pub fn page_need(w: usize, c: usize, n: usize) -> usize
+    requires { ⌜ Width w × (c < shape w .classes) × (n ≡ shape w .perPage c) ⌝ }
     ensures { λ r. ⌜ r ≡ pageNeed (shape w) c ⌝ }
 {
-    2 * w + items_in_page(w, c) * item_size(w, c)
+    2 * w + n * item_size(w, c)
 }
 
 // The header of a free item of class c with the item at `next` after it on its list; its class and flags alone; and the header of an item in use.

@@ -52,10 +52,10 @@ pub record Linking (w : ℕ) (h₀ : List ℕ) (c p size step n : ℕ) (h : List
   pub shown : Shows w h (itemWords (shape w) c (p + left) (suc after))
   pub others : (i : ℕ) → Outside w i (itemWords (shape w) c (p + left) (suc after)) → getD h i 0 ≡ getD h₀ i 0
 
--- where the last item begins, and what its place needs; n is the number of items as code works it out
-module _ {w : ℕ} (h : List ℕ) {c p : ℕ} (r : ItemsRoom w (length h) c p) (size n left : ℕ) (es : size ≡ itemSize (shape w) c) (en : n ≡ shape w .perPage c) (el : left ≡ (n - 1) * size) where
+-- where the last of n items begins, and what its place needs
+module _ {w : ℕ} (h : List ℕ) {c n p : ℕ} (r : ItemsRoom w (length h) c n p) (size left : ℕ) (es : size ≡ itemSize (shape w) c) (el : left ≡ (n - 1) * size) where
   count : suc (n - 1) ≡ shape w .perPage c
-  count = omega (arith, per-page-bound (r .width) c)
+  count = omega (arith, r .all, per-page-bound (r .width) c)
 
   pub last-room : p + left + size ≤ length h
   last-room =

@@ -12,10 +12,11 @@ use Rattle.model.specs.Rules.{Spot, paged}
 use Rattle.model.specs.Calls.{drawn}
 use Rattle.model.specs.inner.Walks.{SpotIn}
 
--- a page's items of class c have room from p on, within n bytes
-pub record ItemsRoom (w : ℕ) (n c p : ℕ) : Type 0 where
+-- a page's k items of class c have room from p on, within n bytes
+pub record ItemsRoom (w : ℕ) (n c k p : ℕ) : Type 0 where
   pub width : Width w
   pub class : c < shape w .classes
+  pub all : k ≡ shape w .perPage c
   pub low : index (shape w) ≤ p
   pub inside : p + shape w .perPage c * itemSize (shape w) c ≤ n
   pub short : n ≤ shape w .most

@@ -24,8 +24,8 @@ head : (c : tie.After-word) → c .word .result ≡ wordAt (c .before .before .b
 head c = c .word .ensures ∙ ap (λ (x : ℕ). wordAt (c .before .before .before .before .args .w) (c .before .before .before .before .args .h .now) x) (c .before .head-at .ensures .0)
 
 -- where a page fits first
-found : (c : tie.After-find-fit) → FindsFit (c .before .before .before .before .before .before .before .before .args .w) (c .before .before .before .before .before .before .before .before .args .h .now) (pageNeed (shape (c .before .before .before .before .before .before .before .before .args .w)) (c .before .before .before .before .before .before .before .before .args .c)) (c .find-fit .result .0)
-found c = finds-page (c .before .page-need .result) (c .find-fit .result .0) (c .before .before .before .before .before .before .before .before .args .c) (c .before .page-need .ensures) (c .find-fit .ensures)
+found : (c : tie.After-find-fit) → FindsFit (c .before .before .before .before .before .before .before .before .before .args .w) (c .before .before .before .before .before .before .before .before .before .args .h .now) (pageNeed (shape (c .before .before .before .before .before .before .before .before .before .args .w)) (c .before .before .before .before .before .before .before .before .before .args .c)) (c .find-fit .result .0)
+found c = finds-page (c .before .page-need .result) (c .find-fit .result .0) (c .before .before .before .before .before .before .before .before .before .args .c) (c .before .page-need .ensures) (c .find-fit .ensures)
 
 word-requires : tie.Need-word-requires
 word-requires c κs = (c .before .before .before .pre .ready .width, omega (arith, c .head-at .ensures .1, ready-long (c .before .before .before .pre .ready)))
@@ -39,6 +39,9 @@ same-length c = search needs
 returns : tie.Need-returns
 returns c = item-given (c .before .before .before .before .before .before .before .before .before .pre .ready) (c .before .before .before .before .before .before .before .before .before .pre .class) _ _ (λ z. omega (arith, z, head (c .before .before .before .before .before), c .before .before .before .before .if1 .taken)) (c .before .before .take .ensures)
 
+items-in-page-requires : tie.Need-items-in-page-requires
+items-in-page-requires c κs = search needs
+
 page-need-requires : tie.Need-page-need-requires
 page-need-requires c κs = search needs
 
@@ -49,19 +52,19 @@ same-length-2 : tie.Need-same-length-2
 same-length-2 c = search needs
 
 returns-2 : tie.Need-returns-2
-returns-2 c = page-none (c .before .before .before .before .before .before .before .before .before .before .pre .ready) (c .before .before .before .before .before .before .before .before .before .before .pre .class) (sym (head (c .before .before .before .before .before .before)) ∙ c .before .before .before .before .before .if1 .left) _ (found (c .before .before)) (c .if2 .taken)
+returns-2 c = page-none (c .before .before .before .before .before .before .before .before .before .before .before .pre .ready) (c .before .before .before .before .before .before .before .before .before .before .before .pre .class) (sym (head (c .before .before .before .before .before .before .before)) ∙ c .before .before .before .before .before .before .if1 .left) _ (found (c .before .before)) (c .if2 .taken)
 
 make-requires : tie.Need-make-requires
-make-requires c κs = ((spotted (c .before .before .before .before .before .before .before .before .before .before .before .pre .ready) _ _ (found (c .before .before .before)) (c .before .if2 .left)), no-item (c .before .before .before .before .before .before .before .before .before .before .before .pre .ready) (c .before .before .before .before .before .before .before .before .before .before .before .pre .class) (sym (head (c .before .before .before .before .before .before .before)) ∙ c .before .before .before .before .before .before .if1 .left))
+make-requires c κs = ((spotted (c .before .before .before .before .before .before .before .before .before .before .before .before .pre .ready) _ _ (found (c .before .before .before)) (c .before .if2 .left)), (no-item (c .before .before .before .before .before .before .before .before .before .before .before .before .pre .ready) (c .before .before .before .before .before .before .before .before .before .before .before .before .pre .class) (sym (head (c .before .before .before .before .before .before .before .before)) ∙ c .before .before .before .before .before .before .before .if1 .left), c .before .before .before .before .before .before .items-in-page .ensures))
 
 take-requires-2 : tie.Need-take-requires-2
-take-requires-2 c κs = made-item (c .before .before .before .before .before .before .before .before .before .before .before .before .before .before .before .pre .ready) (c .before .before .before .before .before .before .before .before .before .before .before .before .before .before .before .pre .class) (sym (head (c .before .before .before .before .before .before .before .before .before .before .before)) ∙ c .before .before .before .before .before .before .before .before .before .before .if1 .left) _ _ (c .before .before .before .make .ensures) (spotted (c .before .before .before .before .before .before .before .before .before .before .before .before .before .before .before .pre .ready) _ _ (found (c .before .before .before .before .before .before .before)) (c .before .before .before .before .before .if2 .left))
+take-requires-2 c κs = made-item (c .before .before .before .before .before .before .before .before .before .before .before .before .before .before .before .before .pre .ready) (c .before .before .before .before .before .before .before .before .before .before .before .before .before .before .before .before .pre .class) (sym (head (c .before .before .before .before .before .before .before .before .before .before .before .before)) ∙ c .before .before .before .before .before .before .before .before .before .before .before .if1 .left) _ _ (c .before .before .before .make .ensures) (spotted (c .before .before .before .before .before .before .before .before .before .before .before .before .before .before .before .before .pre .ready) _ _ (found (c .before .before .before .before .before .before .before)) (c .before .before .before .before .before .if2 .left))
 
 same-length-3 : tie.Need-same-length-3
 same-length-3 c = search needs
 
 returns-3 : tie.Need-returns-3
-returns-3 c = page-given (c .before .before .before .before .before .before .before .before .before .before .before .before .before .before .before .before .before .before .pre .ready) (c .before .before .before .before .before .before .before .before .before .before .before .before .before .before .before .before .before .before .pre .class) (sym (head (c .before .before .before .before .before .before .before .before .before .before .before .before .before .before)) ∙ c .before .before .before .before .before .before .before .before .before .before .before .before .before .if1 .left) _ _ (c .before .before .before .before .before .before .make .ensures) (found (c .before .before .before .before .before .before .before .before .before .before)) (c .before .before .before .before .before .before .before .before .if2 .left) _ _ (c .before .before .take2 .ensures) (λ i. c .before .before .before .before .before .before .before .before .before .before .before .before .before .before .before .before .before .slice-known .given i .fits)
+returns-3 c = page-given (c .before .before .before .before .before .before .before .before .before .before .before .before .before .before .before .before .before .before .before .pre .ready) (c .before .before .before .before .before .before .before .before .before .before .before .before .before .before .before .before .before .before .before .pre .class) (sym (head (c .before .before .before .before .before .before .before .before .before .before .before .before .before .before .before)) ∙ c .before .before .before .before .before .before .before .before .before .before .before .before .before .before .if1 .left) _ _ (c .before .before .before .before .before .before .make .ensures) (found (c .before .before .before .before .before .before .before .before .before .before)) (c .before .before .before .before .before .before .before .before .if2 .left) _ _ (c .before .before .take2 .ensures) (λ i. c .before .before .before .before .before .before .before .before .before .before .before .before .before .before .before .before .before .before .slice-known .given i .fits)
 
 pub an-item-spec : {M : Type 1} → statement M
 an-item-spec =
@@ -72,6 +75,7 @@ an-item-spec =
     take-requires
     same-length
     returns
+    items-in-page-requires
     page-need-requires
     find-fit-requires
     same-length-2
