@@ -1,4 +1,4 @@
--- Allocate: what each way through the call shows of its contract.
+-- Allocate: what each way through the call shows of its contract. Of document 01's heap, words of 8 bytes.
 use Prim.Native.Nat.{ℕ, _≤_}
 use mathlib.Core.Path.{_≡_, refl, sym, ap, _∙_}
 use mathlib.Core.List.{List}

@@ -1,4 +1,4 @@
--- The reading calls: what each way through them shows of their contracts.
+-- The reading calls: what each way through them shows of their contracts. Of document 01's heap, words of 8 bytes.
 use Prim.Native.Nat.{ℕ, _+_, _-_}
 use mathlib.Core.Path.{_≡_, refl, sym, ap, _∙_}
 use mathlib.Core.List.{List, []}

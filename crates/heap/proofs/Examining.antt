@@ -1,4 +1,4 @@
--- What every call but initialise finds first, and what follows for its contract.
+-- What every call but initialise finds first, and what follows for its contract. Of document 01's heap, words of 8 bytes.
 use Prim.Native.Nat.{ℕ}
 use mathlib.Core.Path.{_≡_, refl, sym, _∙_}
 use mathlib.Core.Bool.{Bool, true, false}

@@ -1,4 +1,4 @@
--- The reading calls that stand side by side: an answer, and its refusal number, are together what document 01 says.
+-- The reading calls that stand side by side: an answer, and its refusal number, are together what document 01 says. Of document 01's heap, words of 8 bytes.
 use Prim.Native.Nat.{ℕ, _+_, _≤_}
 use mathlib.Core.Path.{_≡_, refl, sym, ap, ap₂, _∙_}
 use mathlib.Core.List.{List, []}

@@ -1,4 +1,4 @@
--- An answer's number does not depend on the bytes, so it tells the outcome.
+-- An answer's number does not depend on the bytes, so it tells the outcome. Of document 01's heap, words of 8 bytes.
 use Prim.Native.Nat.{ℕ, _*_}
 use mathlib.Core.Path.{_≡_, refl, _∙_}
 use mathlib.Core.List.{List, []}

@@ -1,4 +1,4 @@
--- A call on the first bytes of a buffer: its line, and the whole buffer then.
+-- A call on the first bytes of a buffer: its line, and the whole buffer then. Of document 01's heap, words of 8 bytes.
 use Prim.Native.Nat.{ℕ, _-_, _≤_, _<_}
 use mathlib.Core.Path.{_≡_, refl, ap, subst}
 use mathlib.Core.Bool.{Bool, true, false, cond}
