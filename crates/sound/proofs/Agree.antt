@@ -1,7 +1,6 @@
 -- The marks that the walk leaves and the marked items that the lists meet are the same exactly where each class's list visits its free items.
 use Prim.Native.Nat.{ℕ, _+_, _%_, _≤_, _<_}
 use mathlib.Core.Path.{_≡_, refl, sym, ap, _∙_}
-use mathlib.Core.Bool.{false}
 use mathlib.Core.List.{List, [], _∷_, _++_}
 use native.Mathlib.Omega.{arith}
 use native.Mathlib.Decide.{ℕ-discrete, decLe}
@@ -12,7 +11,7 @@ use Rattle.words.specs.Word.{wordAt}
 use Rattle.words.specs.Bits.{bitAt}
 use Rattle.words.proofs.BitLaws.{beyond-clear}
 use Rattle.model.specs.Shape.{shape, index, start, itemAt}
-use Rattle.model.specs.Parts.{firstFreeAt, headAt, firstItemAt}
+use Rattle.model.specs.Parts.{headAt, firstItemAt}
 use Rattle.model.specs.Layout.{Slot, variable, page, Block, free, used, useSize, sizeOf}
 use Rattle.model.specs.Sound.{times, idleSlots, idleIn, idleItems}
 use Rattle.model.proofs.pictures.Drawn.{times-append}
@@ -24,7 +23,7 @@ use Rattle.walking.specs.Onward.{Reads, freeItems}
 use Rattle.marking.specs.Maps.{offsetBit, offsetAtBit}
 use Rattle.visiting.specs.Lists.{flat, Listed}
 use Rattle.sound.specs.Told.{Filled}
-use Rattle.walking.specs.Told.{BlocksMarked}
+use Rattle.walking.specs.Told.{WholeMarked}
 use Rattle.sound.proofs.ItemHeaders.{slots-header, items-header}
 use Rattle.visiting.proofs.Chained.{chain-item, chains-at}
 use Rattle.sound.proofs.OneLayout.{blocks-one}
@@ -56,7 +55,7 @@ module _ {w : ℕ} (wd : Width w) (b : List ℕ) (x : ℕ) where
       go (yes e) f = rw (eq-eqb (class wd b x) d e) (omega (arith, f, times-append x (idleSlots (shape w) d (firstItemAt (shape w) p) ss) rest))
       go (no e) f = rw (ne-eqb (class wd b x) d e) (omega (arith, f, none-slots d (firstItemAt (shape w) p) ss (omega arith) (r .0 .2) e))
 
-module _ {w : ℕ} (wd : Width w) (b : List ℕ) (end : ℕ) (m : List ℕ) (walk : BlocksMarked w b end (start (shape w)) 0 false (wordAt w b (firstFreeAt (shape w))) [] m) where
+module _ {w : ℕ} (wd : Width w) (b : List ℕ) (end : ℕ) (m : List ℕ) (walk : WholeMarked w b end [] m) where
   mark : (j : ℕ) → bitAt m j ≡ times (offsetAtBit w j) (freeItems w (start (shape w)) (walk .onward .rest))
   mark j = omega (arith, walk .adds .at j, beyond-clear [] j (omega arith))
 

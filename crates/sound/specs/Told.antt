@@ -1,14 +1,14 @@
 -- What each part of the check tells: the fixed words, and blocks and lists, as far as a map goes.
 use Prim.Native.Nat.{ℕ, _<_}
 use mathlib.Core.Path.{_≡_}
-use mathlib.Core.Bool.{Bool, false}
+use mathlib.Core.Bool.{Bool}
 use mathlib.Core.List.{List, []}
 use lib.ListN.{length, getD}
 use Rattle.words.specs.Word.{wordAt}
 use Rattle.model.specs.Shape.{shape, index, start, endOf}
-use Rattle.model.specs.Parts.{magicBytes, dataAt, indexAt, firstFreeAt, endAt, indexTag, indexTagAt, indexFarTagAt}
+use Rattle.model.specs.Parts.{magicBytes, dataAt, indexAt, endAt, indexTag, indexTagAt, indexFarTagAt}
 use Rattle.telling.specs.Tells.{Tells}
-use Rattle.walking.specs.Onward.{Onward}
+use Rattle.walking.specs.Onward.{Whole}
 use Rattle.marking.specs.Maps.{mapEnd}
 use Rattle.walking.specs.declared.Stand.{Stand}
 use Rattle.sound.specs.declared.Filling.{Filling}
@@ -28,7 +28,7 @@ pub record Fixed (w : ℕ) (b : List ℕ) (end : ℕ) : Type 0 where
 
 -- blocks fill the data area, and the lists visit every free item of their class once and nothing else
 pub record Filled (w : ℕ) (b : List ℕ) (end : ℕ) : Type 0 where
-  pub onward : Onward w b end (start (shape w)) 0 false (wordAt w b (firstFreeAt (shape w)))
+  pub onward : Whole w b end
   pub lists : List (List ℕ)
   pub chains : Chains w b end 0 lists
   pub same : (c x : ℕ) → c < shape w .classes → times x (getD lists c []) ≡ times x (idleItems (shape w) c (start (shape w)) (onward .rest))

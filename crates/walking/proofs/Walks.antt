@@ -11,7 +11,7 @@ use borrow.Author.Tests.{eq-eqb, ne-eqb}
 use Rattle.words.specs.Width.{Width}
 use Rattle.words.specs.Word.{wordAt}
 use Rattle.model.specs.Shape.{shape, start, leastFree, leastVariable}
-use Rattle.model.specs.Parts.{freeKind, variableKind, pageKind, sizeIn, kindIn, tagOf, firstFreeAt, farTagAt, nextAt, previousAt}
+use Rattle.model.specs.Parts.{freeKind, variableKind, pageKind, sizeIn, kindIn, tagOf, farTagAt, nextAt, previousAt}
 use Rattle.model.specs.Layout.{Use, variable, page, Block, free, used, useSize, sizeOf, ends, firstFree}
 use Rattle.model.specs.Sound.{Allowed, AllowedUse, AllAllowed, Apart}
 use Rattle.model.specs.inner.Walks.{flag}
@@ -19,11 +19,11 @@ use Rattle.model.specs.inner.Links.{linkOf}
 use Rattle.model.proofs.blocks.Blocks.{le-ends}
 use Rattle.model.proofs.walks.Standing.{sizes}
 use Rattle.marking.specs.Uses.{useKind, UseAt, freeIn}
-use Rattle.walking.specs.Onward.{Reads, Onward, freeItems}
+use Rattle.walking.specs.Onward.{Reads, Onward, Whole, freeItems}
 use Rattle.marking.specs.Maps.{mapEnd}
 use Rattle.telling.specs.Told.{SizeIf}
 use Rattle.marking.specs.Told.{Marking, UseMarked}
-use Rattle.walking.specs.Told.{BlocksMarked, WalkRoom, WalkRoomAt, Stood, StoodAt, Paused, Halted, PassTold, WalkTold}
+use Rattle.walking.specs.Told.{BlocksMarked, WholeMarked, WalkRoom, WalkRoomAt, Stood, StoodAt, Paused, Halted, PassTold, WalkTold}
 use Rattle.telling.specs.Neighbours.{touches, expected}
 use Rattle.walking.specs.declared.Stand.{Stand}
 use Rattle.walking.specs.declared.Walk.the-variants.{Unsound, Beyond, On}
@@ -192,7 +192,7 @@ to-same : {s x : Stand} → To s ≡ To x → s ≡ x
 to-same e = cc
 
 -- answers of a walk
-pub walk-wrong : {w : ℕ} {b : List ℕ} {end : ℕ} {P : Stand → Type 0} {m′ : List ℕ} → (Onward w b end (start (shape w)) 0 false (wordAt w b (firstFreeAt (shape w))) → ⊥) → WalkTold w b end P Unsound m′
+pub walk-wrong : {w : ℕ} {b : List ℕ} {end : ℕ} {P : Stand → Type 0} {m′ : List ℕ} → (Whole w b end → ⊥) → WalkTold w b end P Unsound m′
 walk-wrong f = record { is-no = λ _. f; is-beyond = λ s y. absurd (wrong-beyond y); is-on = λ s y. absurd (wrong-on y) }
 
 pub walk-beyond : {w : ℕ} {b : List ℕ} {end : ℕ} {P : Stand → Type 0} {m′ : List ℕ} (s : Stand) → Halted w b end s m′ → mapEnd w (length m′) < end → WalkTold w b end P (Beyond s) m′
@@ -201,7 +201,7 @@ walk-beyond {w} {b} {end} {P} {m′} s v l = record { is-no = λ y. absurd (wron
 pub walk-on : {w : ℕ} {b : List ℕ} {end : ℕ} {P : Stand → Type 0} {m′ : List ℕ} (s : Stand) → StoodAt w b end s m′ → P s → WalkTold w b end P (On s) m′
 walk-on {w} {b} {end} {P} {m′} s v l = record { is-no = λ y. absurd (wrong-on (sym y)); is-beyond = λ x y. absurd (on-beyond y); is-on = λ x y. subst (λ (z : Stand). StoodAt w b end z m′ × P z) (on-same y) (v, l) }
 
-pub pass-wrong : {w : ℕ} {b : List ℕ} {end : ℕ} {P : Stand → Type 0} {m : List ℕ} → (Onward w b end (start (shape w)) 0 false (wordAt w b (firstFreeAt (shape w))) → ⊥) → PassTold w b end P None m
+pub pass-wrong : {w : ℕ} {b : List ℕ} {end : ℕ} {P : Stand → Type 0} {m : List ℕ} → (Whole w b end → ⊥) → PassTold w b end P None m
 pass-wrong f = record { is-no = λ _. f; is-to = λ s y. absurd (none-to y) }
 
 pub pass-to : {w : ℕ} {b : List ℕ} {end : ℕ} {P : Stand → Type 0} {m : List ℕ} (s : Stand) → StoodAt w b end s m → P s → PassTold w b end P (To s) m
@@ -233,22 +233,22 @@ module _ {w : ℕ} {b m : List ℕ} {end p left prev link n : ℕ} (v : Stood w 
   named e = e ∙ ap (λ (q : ℕ). wordAt w b q) (v .room .linked)
 
   -- at the end
-  pub stood-end : left ≡ 0 → wordAt w b link ≡ 0 → BlocksMarked w b end (start (shape w)) 0 false (wordAt w b (firstFreeAt (shape w))) [] m
+  pub stood-end : left ≡ 0 → wordAt w b link ≡ 0 → WholeMarked w b end [] m
   stood-end h e = v .back m (stop-out wd m (omega (arith, v .room .stops)) (sym (named (sym e))))
 
-  pub stood-open : left ≡ 0 → (wordAt w b link ≡ 0 → ⊥) → Onward w b end (start (shape w)) 0 false (wordAt w b (firstFreeAt (shape w))) → ⊥
+  pub stood-open : left ≡ 0 → (wordAt w b link ≡ 0 → ⊥) → Whole w b end → ⊥
   stood-open h e r = e (named refl ∙ stop-in wd (omega (arith, v .room .stops)) (v .ahead r))
 
   module _ (h : 0 < left) (t : ℕ) (et : t ≡ wordAt w b p) where
-    here : Onward w b end (start (shape w)) 0 false (wordAt w b (firstFreeAt (shape w))) → BlockPassed w b end p prev (touches w b p) (expected w b prev) t (sizeIn t)
+    here : Whole w b end → BlockPassed w b end p prev (touches w b p) (expected w b prev) t (sizeIn t)
     here r = passed wd t (sizeIn t) et refl (omega (arith, v .room .stops)) (v .ahead r)
 
     -- a test that failed
-    pub stood-no : (BlockPassed w b end p prev (touches w b p) (expected w b prev) t (sizeIn t) → ⊥) → Onward w b end (start (shape w)) 0 false (wordAt w b (firstFreeAt (shape w))) → ⊥
+    pub stood-no : (BlockPassed w b end p prev (touches w b p) (expected w b prev) t (sizeIn t) → ⊥) → Whole w b end → ⊥
     stood-no f r = f (here r)
 
     -- a tag that says no page within what is left, where the walk has halted
-    pub stood-out : Paused w b p left → (kindIn t ≡ pageKind → 8 * left < sizeIn t) → Onward w b end (start (shape w)) 0 false (wordAt w b (firstFreeAt (shape w))) → ⊥
+    pub stood-out : Paused w b p left → (kindIn t ≡ pageKind → 8 * left < sizeIn t) → Whole w b end → ⊥
     stood-out q f = stood-no (λ y. go y (ℕ-discrete (kindIn t) freeKind) (ℕ-discrete (kindIn t) variableKind) (ℕ-discrete (kindIn t) pageKind))
       where
         go : BlockPassed w b end p prev (touches w b p) (expected w b prev) t (sizeIn t) → Dec (kindIn t ≡ freeKind) → Dec (kindIn t ≡ variableKind) → Dec (kindIn t ≡ pageKind) → ⊥
@@ -281,7 +281,7 @@ module _ {w : ℕ} {b m : List ℕ} {end p left prev link n : ℕ} (v : Stood w 
           }
 
     -- a block in use of this kind that is none
-    pub stood-wrong : (k kind : ℕ) → 8 * k ≡ sizeIn t → kindIn t ≡ kind → (kind ≡ freeKind → ⊥) → (UseAt w b p (8 * k) kind → ⊥) → Onward w b end (start (shape w)) 0 false (wordAt w b (firstFreeAt (shape w))) → ⊥
+    pub stood-wrong : (k kind : ℕ) → 8 * k ≡ sizeIn t → kindIn t ≡ kind → (kind ≡ freeKind → ⊥) → (UseAt w b p (8 * k) kind → ⊥) → Whole w b end → ⊥
     stood-wrong k kind ek e in-use f = stood-no (λ y. f (rw (ek, ← e) (y .when-used (λ a. in-use (sym e ∙ a)) .0)))
 
 -- a walk from one place to another, over blocks without items: whatever the map

@@ -1,11 +1,11 @@
 -- What a walk over the blocks finds in the bytes: blocks from a position to the end, or none.
 use Prim.Native.Nat.{ℕ, _+_}
 use mathlib.Core.Path.{_≡_}
-use mathlib.Core.Bool.{Bool}
+use mathlib.Core.Bool.{Bool, false}
 use mathlib.Core.List.{List, [], _∷_, _++_}
 use Rattle.words.specs.Word.{wordAt}
-use Rattle.model.specs.Shape.{shape}
-use Rattle.model.specs.Parts.{tagOf, farTagAt, nextAt, previousAt}
+use Rattle.model.specs.Shape.{shape, start}
+use Rattle.model.specs.Parts.{tagOf, farTagAt, nextAt, previousAt, firstFreeAt}
 use Rattle.model.specs.Layout.{Block, free, used, useSize, ends, firstFree}
 use Rattle.model.specs.Sound.{AllAllowed, Apart}
 use Rattle.model.specs.inner.Walks.{flag}
@@ -34,6 +34,10 @@ pub record Onward (w : ℕ) (b : List ℕ) (end p prev : ℕ) (touching : Bool) 
   pub allowed : AllAllowed (shape w) rest
   pub apart : Apart (flag touching) rest
   pub links : firstFree (shape w) p rest 0 ≡ link
+
+-- the blocks of the whole data area: from its start, where no free block comes before, and the first one is named in the heap's header
+abbrev pub Whole : ℕ → List ℕ → ℕ → Type 0
+Whole w b end = Onward w b end (start (shape w)) 0 false (wordAt w b (firstFreeAt (shape w)))
 
 -- the offsets of the free items of every class, in blocks from p on
 unfoldable pub freeItems : ℕ → ℕ → List Block → List ℕ

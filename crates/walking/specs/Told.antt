@@ -8,7 +8,7 @@ use Rattle.words.specs.Word.{wordAt}
 use Rattle.model.specs.Shape.{shape, start}
 use Rattle.model.specs.Parts.{freeKind, variableKind, kindIn, sizeIn, firstFreeAt}
 use Rattle.model.specs.inner.Links.{linkOf}
-use Rattle.walking.specs.Onward.{Onward, freeItems}
+use Rattle.walking.specs.Onward.{Onward, Whole, freeItems}
 use Rattle.marking.specs.Maps.{Adds, mapEnd}
 use Rattle.walking.specs.declared.Stand.{Stand}
 use Rattle.walking.specs.declared.Walk.{Walk}
@@ -23,6 +23,10 @@ pub record BlocksMarked (w : ℕ) (b : List ℕ) (end p prev : ℕ) (touching : 
   pub onward : Onward w b end p prev touching link
   pub adds : Adds w m m′ (freeItems w p (onward .rest))
 
+-- the same of the whole data area
+abbrev pub WholeMarked : ℕ → List ℕ → ℕ → List ℕ → List ℕ → Type 0
+WholeMarked w b end = BlocksMarked w b end (start (shape w)) 0 false (wordAt w b (firstFreeAt (shape w)))
+
 -- a walk stands at p, with `left` eights of bytes to go, the last free block at prev, and the link to the next one at `link`
 pub record WalkRoom (w : ℕ) (b : List ℕ) (end p left prev link : ℕ) : Type 0 where
   pub sizes : Sizes w b end
@@ -35,8 +39,8 @@ pub record WalkRoom (w : ℕ) (b : List ℕ) (end p left prev link : ℕ) : Type
 -- it has come there from the start, with n marks in the map m: what is ahead of it is there exactly where the whole is
 pub record Stood (w : ℕ) (b : List ℕ) (end p left prev link n : ℕ) (m : List ℕ) : Type 0 where
   pub room : WalkRoom w b end p left prev link
-  pub ahead : Onward w b end (start (shape w)) 0 false (wordAt w b (firstFreeAt (shape w))) → Onward w b end p prev (touches w b p) (expected w b prev)
-  pub back : (m′ : List ℕ) → BlocksMarked w b end p prev (touches w b p) (expected w b prev) m m′ → BlocksMarked w b end (start (shape w)) 0 false (wordAt w b (firstFreeAt (shape w))) [] m′
+  pub ahead : Whole w b end → Onward w b end p prev (touches w b p) (expected w b prev)
+  pub back : (m′ : List ℕ) → BlocksMarked w b end p prev (touches w b p) (expected w b prev) m m′ → WholeMarked w b end [] m′
   pub marking : Marking w m n p
 
 -- the block at p is no variable and no free one within `left` eights of bytes
@@ -63,11 +67,11 @@ pub record Halted (w : ℕ) (b : List ℕ) (end : ℕ) (s : Stand) (m : List ℕ
 
 -- a walk's answer; where it has gone on, P holds of where it stands
 pub record WalkTold (w : ℕ) (b : List ℕ) (end : ℕ) (P : Stand → Type 0) (r : Walk) (m′ : List ℕ) : Type 0 where
-  pub is-no : r ≡ Wrong → Onward w b end (start (shape w)) 0 false (wordAt w b (firstFreeAt (shape w))) → ⊥
+  pub is-no : r ≡ Wrong → Whole w b end → ⊥
   pub is-beyond : (s : Stand) → r ≡ Beyond s → Halted w b end s m′ × (mapEnd w (length m′) < end)
   pub is-on : (s : Stand) → r ≡ On s → StoodAt w b end s m′ × P s
 
 -- the same of a walk over blocks without items, whatever the map
 pub record PassTold (w : ℕ) (b : List ℕ) (end : ℕ) (P : Stand → Type 0) (r : Passed) (m : List ℕ) : Type 0 where
-  pub is-no : r ≡ None → Onward w b end (start (shape w)) 0 false (wordAt w b (firstFreeAt (shape w))) → ⊥
+  pub is-no : r ≡ None → Whole w b end → ⊥
   pub is-to : (s : Stand) → r ≡ To s → StoodAt w b end s m × P s

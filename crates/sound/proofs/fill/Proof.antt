@@ -2,12 +2,9 @@ use Rattle.walking.proofs.Walks.{stood-end, stood-open, link-room}
 use Rattle.sound.proofs.FillLaws.{fill-told, fill-beyond}
 use Rattle.sound.proofs.Agree.{end-clear, agree-filled, agree-listed}
 use Rattle.telling.proofs.Tellings.{tells-no, tells-so}
-use Rattle.words.specs.Word.{wordAt}
-use Rattle.model.specs.Shape.{shape, start, endOf}
-use Rattle.model.specs.Parts.{firstFreeAt}
+use Rattle.model.specs.Shape.{endOf}
 use Rattle.marking.specs.Told.{MapSize}
-use Rattle.walking.specs.Told.{BlocksMarked, StoodAt, WalkTold}
-use mathlib.Core.Bool.{false}
+use Rattle.walking.specs.Told.{WholeMarked, StoodAt, WalkTold}
 use mathlib.Core.List.{[]}
 use mathlib.Core.Path.{_≡_, sym, _∙_}
 use lib.ListN.{length}
@@ -46,7 +43,7 @@ same-length : tie.Need-same-length
 same-length c = search needs
 
 -- no further free block is expected
-ended : (c : tie.Else1) → BlocksMarked (c .before .before .before .before .before .before .before .before .before .before .before .before .args .w) (c .before .before .before .before .before .before .before .before .before .before .before .before .args .h .now) (endOf (length (c .before .before .before .before .before .before .before .before .before .before .before .before .args .h .now))) (start (shape (c .before .before .before .before .before .before .before .before .before .before .before .before .args .w))) 0 false (wordAt (c .before .before .before .before .before .before .before .before .before .before .before .before .args .w) (c .before .before .before .before .before .before .before .before .before .before .before .before .args .h .now) (firstFreeAt (shape (c .before .before .before .before .before .before .before .before .before .before .before .before .args .w)))) [] (c .before .before .before .before .before .before .before .before .mark-blocks .last .1 .1 .0)
+ended : (c : tie.Else1) → WholeMarked (c .before .before .before .before .before .before .before .before .before .before .before .before .args .w) (c .before .before .before .before .before .before .before .before .before .before .before .before .args .h .now) (endOf (length (c .before .before .before .before .before .before .before .before .before .before .before .before .args .h .now))) [] (c .before .before .before .before .before .before .before .before .mark-blocks .last .1 .1 .0)
 ended c = stood-end (stands (c .before .before)) (told (c .before .before .before .before .before .before .before .before) .is-on _ (c .before .before .before .before .s2 .given .1) .1) (sym (c .before .word .ensures) ∙ c .if1 .left)
 
 returns : tie.Need-returns

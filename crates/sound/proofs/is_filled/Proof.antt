@@ -7,8 +7,7 @@ use Rattle.model.specs.Shape.{shape, start, endOf}
 use Rattle.model.specs.Parts.{pageKind, kindIn, firstFreeAt}
 use Rattle.model.proofs.Sizes.{end-room}
 use Rattle.marking.specs.Told.{Sizes}
-use Rattle.walking.specs.Told.{BlocksMarked, Stood, StoodAt, HaltsIn, PassTold}
-use mathlib.Core.Bool.{false}
+use Rattle.walking.specs.Told.{WholeMarked, Stood, StoodAt, HaltsIn, PassTold}
 use mathlib.Core.List.{[]}
 use mathlib.Core.Path.{_≡_, sym, ap, _∙_}
 use Prim.Native.Nat.{ℕ, _-_, _/_}
@@ -85,7 +84,7 @@ returns-4 : tie.Need-returns-4
 returns-4 c = rw (c .before .before .before .before .before .before .before .before .before .before .before .before .before .before .before .pre .2) (tells-no _ (λ f. stood-open (stands (c .before .before .before)) (c .before .before .before .if2 .left) (λ e. c .if3 .taken (c .before .word2 .ensures ∙ e)) (f .onward)))
 
 -- at the end no further free block is expected
-ended : (c : tie.Else3) → BlocksMarked (c .before .before .before .before .before .before .before .before .before .before .before .before .before .before .before .args .w) (c .before .before .before .before .before .before .before .before .before .before .before .before .before .before .before .args .h .now) (endOf (length (c .before .before .before .before .before .before .before .before .before .before .before .before .before .before .before .args .h .now))) (start (shape (c .before .before .before .before .before .before .before .before .before .before .before .before .before .before .before .args .w))) 0 false (wordAt (c .before .before .before .before .before .before .before .before .before .before .before .before .before .before .before .args .w) (c .before .before .before .before .before .before .before .before .before .before .before .before .before .before .before .args .h .now) (firstFreeAt (shape (c .before .before .before .before .before .before .before .before .before .before .before .before .before .before .before .args .w)))) [] []
+ended : (c : tie.Else3) → WholeMarked (c .before .before .before .before .before .before .before .before .before .before .before .before .before .before .before .args .w) (c .before .before .before .before .before .before .before .before .before .before .before .before .before .before .before .args .h .now) (endOf (length (c .before .before .before .before .before .before .before .before .before .before .before .before .before .before .before .args .h .now))) [] []
 ended c = stood-end (stands (c .before .before .before)) (c .before .before .before .if2 .left) (sym (c .before .word2 .ensures) ∙ c .if3 .left)
 
 no-lists-requires : tie.Need-no-lists-requires
