@@ -64,9 +64,6 @@ bit-low m j = omega arith
 pub bit-set : {r : ℕ} (m : List ℕ) (j : ℕ) → r ≡ bitAt m j → (r ≡ 0 → ⊥) → bitAt m j ≡ 1
 bit-set m j e z = omega (arith, bit-low m j)
 
-pub bit-clear : {r : ℕ} (m : List ℕ) (j : ℕ) → r ≡ bitAt m j → (r ≡ 1 → ⊥) → r ≡ 0
-bit-clear m j e z = omega (arith, bit-low m j)
-
 pub length-marked : (m m₁ : List ℕ) (i : ℕ) → m₁ ≡ marked m i → length m₁ ≡ length m
 unfolding marked
 length-marked m m₁ i e = ap length e ∙ simp length-set

@@ -245,9 +245,6 @@ pub variable-out : {w : ℕ} → Width w → (b : List ℕ) (p s : ℕ) (m : Lis
 unfolding useKind Headers freeIn AllowedUse useSize
 variable-out wd b p s m a h = record { use-at = record { use-is = variable s; allowed = (h, a); size = refl; kind-is = refl; headers = tt }; adds = adds-none wd m }
 
-pub variable-small : {w : ℕ} (b : List ℕ) (p s : ℕ) → s < leastVariable (shape w) → UseAt w b p s variableKind → ⊥
-variable-small b p s h u = omega (arith, variable-in b p s u)
-
 -- no other kind
 pub other-in : {w : ℕ} (b : List ℕ) (p s kind : ℕ) → (kind ≡ variableKind → ⊥) → (kind ≡ pageKind → ⊥) → UseAt w b p s kind → ⊥
 unfolding useKind

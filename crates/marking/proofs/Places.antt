@@ -6,19 +6,10 @@ use native.Mathlib.Omega.{arith}
 use lib.Bits.{bitOr, or-mod, or-add-and, and-le-l, and-le-r}
 use Rattle.words.specs.Width.{Width}
 use Rattle.words.proofs.WidthLaws.{widths}
+use Rattle.words.proofs.HighLaws.{high-fits, high-none, high-far}
 use Rattle.model.specs.Shape.{shape, index, itemSize, offsetOf}
 use Rattle.model.specs.Parts.{freeHeader, heldHeader, freeMark, classAndFlags, nextIn}
 use Rattle.marking.specs.Maps.{offsetBit, offsetAtBit, atBit, mapEnd, largeMap}
-
--- a number made of a low part and of a high one
-sum-four : (q r : ℕ) → q < 2 ^ 58 → r < 64 → (r * 2 ^ 57 < 2 ^ 64) × (q + r * 2 ^ 57 < 2 ^ 64)
-sum-four q r h k = omega arith
-
-sum-eight : (q r : ℕ) → q < 2 ^ 57 → r < 128 → (r * 2 ^ 57 < 2 ^ 64) × (q + r * 2 ^ 57 < 2 ^ 64)
-sum-eight q r h k = omega arith
-
-sum-far : (q r : ℕ) → 1 ≤ r → 2 ^ 32 ≤ q + r * 2 ^ 57
-sum-far q r h = omega arith
 
 -- a number or-ed with another is no less than either
 pub or-more : (a b : ℕ) → (a ≤ bitOr a b) × (b ≤ bitOr a b)
@@ -119,7 +110,7 @@ module _ {w : ℕ} (wd : Width w) where
   -- y is the difference of a header x and class c's: what follows of its parts, and of the bit that is made of them
   pub next-fits : (y : ℕ) → y < 2 ^ 64 → (y % (16 * w) * 2 ^ 57 < 2 ^ 64) × (y / (16 * w) + y % (16 * w) * 2 ^ 57 < 2 ^ 64)
   next-fits y =
-      widths (λ w. y < 2 ^ 64 → (y % (16 * w) * 2 ^ 57 < 2 ^ 64) × (y / (16 * w) + y % (16 * w) * 2 ^ 57 < 2 ^ 64)) (λ h. sum-four (y / 64) (y % 64) (omega arith) (omega arith)) (λ h. sum-eight (y / 128) (y % 128) (omega arith) (omega arith)) w wd
+      widths (λ w. y < 2 ^ 64 → (y % (16 * w) * 2 ^ 57 < 2 ^ 64) × (y / (16 * w) + y % (16 * w) * 2 ^ 57 < 2 ^ 64)) (λ h. high-fits (y / 64) (y % 64) (2 ^ 57) 64 (omega arith) (omega arith)) (λ h. high-fits (y / 128) (y % 128) (2 ^ 57) 128 (omega arith) (omega arith)) w wd
 
   module _ (x y c : ℕ) (few : c < shape w .classes) (fits : y < 2 ^ 64) (e : (y + freeMark c) % 2 ^ 64 ≡ x) where
     pub near-parts : classAndFlags (shape w) x ≡ freeMark c → (y % (16 * w) ≡ 0) × (y / (16 * w) ≡ offsetBit w (nextIn (shape w) x))
@@ -129,10 +120,10 @@ module _ {w : ℕ} (wd : Width w) where
     far-part = widths (λ w. c < shape w .classes → (classAndFlags (shape w) x ≡ freeMark c → ⊥) → 1 ≤ y % (16 * w)) (omega (arith, fits, e)) (omega (arith, fits, e)) w wd few
 
     pub next-near : classAndFlags (shape w) x ≡ freeMark c → y / (16 * w) + y % (16 * w) * 2 ^ 57 ≡ offsetBit w (nextIn (shape w) x)
-    next-near f = let z = near-parts f in omega (arith, z .1, ap (λ (k : ℕ). k * 2 ^ 57) (z .0))
+    next-near f = let z = near-parts f in high-none (y / (16 * w)) (y % (16 * w)) (2 ^ 57) (z .0) ∙ z .1
 
     pub next-far : (classAndFlags (shape w) x ≡ freeMark c → ⊥) → 2 ^ 32 ≤ y / (16 * w) + y % (16 * w) * 2 ^ 57
-    next-far f = sum-far (y / (16 * w)) (y % (16 * w)) (far-part f)
+    next-far f = omega (arith, high-far (y / (16 * w)) (y % (16 * w)) (2 ^ 57) (far-part f))
 
   pub no-flags : classAndFlags (shape w) 0 ≡ 0
   no-flags = widths (λ w. classAndFlags (shape w) 0 ≡ 0) (omega arith) (omega arith) w wd

@@ -1,12 +1,20 @@
--- Laws of the sizes of items and pages.
+-- Laws of the sizes of blocks, items and pages.
 use Prim.Native.Nat.{ℕ, _+_, _-_, _*_, _/_, _%_, _≤_, _<_, _^_}
 use mathlib.Core.Path.{_≡_, refl}
 use native.Mathlib.Nat.{div-le-self, div-mul-le-self, mul-le-mul-left}
 use native.Mathlib.Omega.{arith}
 use Rattle.words.specs.Width.{Width}
 use Rattle.words.proofs.WidthLaws.{widths}
-use Rattle.model.specs.Shape.{shape, start, index, leastVariable, needOf, itemSize, pageNeed}
+use Rattle.model.specs.Shape.{shape, up8, start, index, leastVariable, needOf, itemSize, pageNeed}
 use Rattle.model.specs.Parts.{freeHeader, nextIn}
+
+-- a size above a multiple of 8 is rounded up to the next at least
+pub up-above : (k n : ℕ) → 8 * k < n → 8 * k + 8 ≤ up8 n
+up-above k n l = omega arith
+
+-- what is rounded up and holds two tags is a multiple of 8
+pub need-eight : (n t : ℕ) → t % 8 ≡ 0 → (up8 n + t) % 8 ≡ 0
+need-eight n t e = omega arith
 
 -- document 01's word, and the hand unit's
 pub eight : Width 8

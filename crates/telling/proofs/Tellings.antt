@@ -13,9 +13,6 @@ clash r e f = let z : _≡_ {A = ℕ} 0 1 = ap (λ (x : Bool). cond x 1 0) (sym 
 pub tells-no : (P : Type 0) → (P → ⊥) → Tells false P
 tells-no P n = record { yes-is = λ e. absurd (clash false refl e); is-yes = λ p. absurd (n p) }
 
-pub tells-yes : (P : Type 0) → P → Tells true P
-tells-yes P p = record { yes-is = λ _. p; is-yes = λ _. refl }
-
 -- an answer that is a test of two numbers
 pub tells-eq : (a b : ℕ) (P : Type 0) → (a ≡ b → P) → (P → a ≡ b) → Tells (eqb a b) P
 tells-eq a b P f g = record { yes-is = λ e. f (eqb-true a b e); is-yes = λ p. eq-eqb a b (g p) }

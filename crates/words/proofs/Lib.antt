@@ -3,3 +3,4 @@ pub mod WordLaws
 pub mod BitLaws
 pub mod ByteLaws
 pub mod CopyLaws
+pub mod HighLaws

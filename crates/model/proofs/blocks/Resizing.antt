@@ -19,7 +19,7 @@ use Rattle.model.proofs.blocks.Taken.{Takes, parts, takes-of, takes-eig
 use Rattle.model.specs.inner.Links.{takes}
 use Rattle.model.proofs.Good.{Good}
 use Rattle.model.proofs.blocks.Releasing.{Side, nobody, neighbour, before-apart}
-use Rattle.model.proofs.rules.Allocation.{up-above, need-eight}
+use Rattle.model.proofs.Sizes.{up-above, need-eight}
 
 module _ (S : Shape) where
   -- an item stays exactly where its class is the size's

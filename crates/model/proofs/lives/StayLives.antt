@@ -22,6 +22,7 @@ use Rattle.model.proofs.walks.Finding.{block-found}
 use Rattle.model.proofs.blocks.Releasing.{Side, nobody, neighbour, Sides, sides-of}
 use Rattle.model.proofs.lives.Lives.{live-append}
 use Rattle.model.proofs.Good.{Good}
+use Rattle.model.proofs.Sizes.{up-above, need-eight}
 use Rattle.model.proofs.lives.FreeLives.{blockPayload, freed-removes}
 
 -- blocks whose first is not free, with a free block in front
@@ -270,12 +271,6 @@ module _ (S : Shape) where
         go : {rs : List Block} {r : ℕ} (x : Side rs r) → SideAllowed x → t .post ≡ rs ++ s .post → ReshapesAs t need (grown S need (t .size) (rs ++ s .post))
         go nobody c e = alone (s .post) (s .clear-right)
         go (neighbour r) c e = beside r e (c .1) (decLe need (t .size + r))
-
-  up-above : (k n : ℕ) → 8 * k < n → 8 * k + 8 ≤ up8 n
-  up-above k n l = omega arith
-
-  need-eight : (n t : ℕ) → t % 8 ≡ 0 → (up8 n + t) % 8 ≡ 0
-  need-eight n t e = omega arith
 
   module _ (n a : ℕ) {end : ℕ} {L : Layout} (v : Valid S end L) (t : Spot) (e : L .blocks ≡ t .pre ++ ((used (variable (t .size)) ∷ []) ++ t .post)) (at : a ≡ addressOf S (ends S (start S) (t .pre))) where
     big-stays : largestItem S < n → tags S % 8 ≡ 0 → t .size % 8 ≡ 0 → (s : Sides t) → SideAllowed (s .right)

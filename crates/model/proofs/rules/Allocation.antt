@@ -19,19 +19,11 @@ use Rattle.model.proofs.blocks.Spots.{fit-some}
 use Rattle.model.specs.inner.Walks.{Split}
 use Rattle.model.proofs.blocks.Taken.{takes-of}
 use Rattle.model.proofs.blocks.Placed.{placed-valid}
-use Rattle.model.proofs.Sizes.{page-eight}
+use Rattle.model.proofs.Sizes.{page-eight, up-above, need-eight}
 use Rattle.model.proofs.items.Paged.{paged-valid}
 use Rattle.model.proofs.lives.Lives.{Adds, placed-adds, placedPayload, paged-live}
 use Rattle.model.proofs.Good.{Good}
 use Rattle.model.proofs.lives.ItemLives.{itemPayload, popped-adds}
-
--- a size above a multiple of 8 is rounded up to the next at least
-pub up-above : (k n : ℕ) → 8 * k < n → 8 * k + 8 ≤ up8 n
-up-above k n l = omega arith
-
--- what is rounded up and holds two tags is a multiple of 8
-pub need-eight : (n t : ℕ) → t % 8 ≡ 0 → (up8 n + t) % 8 ≡ 0
-need-eight n t e = omega arith
 
 module _ (S : Shape) (end n : ℕ) where
   -- of n bytes in layout L was made m: a payload that holds them, beside all that was live

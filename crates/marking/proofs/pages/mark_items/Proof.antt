@@ -2,9 +2,8 @@ use Rattle.marking.proofs.PageLaws.{ItemsInv, items-start, items-first,
 use Rattle.marking.proofs.Places.{bit-room}
 use Rattle.words.specs.Word.{wordAt}
 use Rattle.model.specs.Shape.{shape, itemSize}
-use Rattle.model.specs.Parts.{freeMark}
 use Rattle.marking.specs.Maps.{atBit}
-use Prim.Native.Nat.{ℕ, _+_, _-_, _/_, _%_, _^_, _<_}
+use Prim.Native.Nat.{ℕ, _+_, _-_, _/_, _<_}
 use mathlib.Core.Path.{_≡_, sym, ap, _∙_}
 use mathlib.Core.Logic.{⊎-elim}
 use native.Mathlib.Omega.{arith}
@@ -58,16 +57,12 @@ wrapping-sub-usize-requires c κs = search needs
 add-i : tie.Need-add-i Inv-loop μ-loop
 add-i c = omega (arith, items-next (c .before .before .before .before .loop .inv .0) (c .before .before .before .before .loop .inv .1) _ (size-is (c .before .before .before .before)) (c .before .before .before .before .before .before .before .before .pre .size))
 
--- what is taken away gives the header back
-differs : (x y k l : ℕ) → k ≡ l → (y + k) % 2 ^ 64 ≡ x → (y + l) % 2 ^ 64 ≡ x
-differs x y k l e f = rw (← e) f
-
 -- an item in use and any other one are passed alike
 turned : (c : tie.Joined1 Inv-loop μ-loop) → ItemsInv (c .before .before .before .before .before .before .before .before .args .w) (c .before .before .before .before .before .before .before .before .args .h .now) (c .before .before .before .before .before .before .before .before .args .m .now) (c .before .before .before .before .before .before .before .before .args .first) (c .before .before .before .before .before .before .before .before .args .stop) (c .before .before .before .before .before .before .before .before .args .c) (c .if1 .m) (c .if1 .n) (c .if1 .wrong) (c .before .before .before .before .loop .i + c .before .before .before .before .before .item-size .result / c .before .before .before .before .before .before .before .before .args .w)
 turned c =
     ⊎-elim
     (λ u. rw (u .1, u .2, u .3) (items-turn-held (c .before .before .before .before .loop .inv .0) (c .before .before .before .before .loop .inv .1) _ _ (read (c .before .before)) (size-is (c .before .before .before .before)) (u .0 .taken ∙ c .before .held-header .ensures)))
-    (λ u. rw (u .7, u .8, u .9) (items-turn-idle (c .before .before .before .before .loop .inv .0) (c .before .before .before .before .loop .inv .1) _ _ (read (c .before .before)) (size-is (c .before .before .before .before)) (λ e. u .0 .left (e ∙ sym (c .before .held-header .ensures))) (c .before .before .before .before .before .before .before .before .pre .class) _ (omega (arith, u .6 .ok)) (differs _ _ _ _ (u .5 .ensures) (u .6 .ensures)) _ (u .2 .ensures)))
+    (λ u. rw (u .7, u .8, u .9) (items-turn-idle (c .before .before .before .before .loop .inv .0) (c .before .before .before .before .loop .inv .1) _ _ (read (c .before .before)) (size-is (c .before .before .before .before)) (λ e. u .0 .left (e ∙ sym (c .before .held-header .ensures))) (c .before .before .before .before .before .before .before .before .pre .class) _ (omega (arith, u .6 .ok)) (rw (u .5 .ensures) at (u .6 .ensures)) _ (u .2 .ensures)))
     (c .if1 .came)
 
 loop-less : tie.Need-loop-less Inv-loop μ-loop
