@@ -23,6 +23,7 @@ from second import CLASSES, NO_ROOM, VARIABLE, Heap  # noqa: E402
 PRODUCTS = os.path.join(ROOT, "target", "bench")
 CALLS = ("initialise", "check", "allocate", "resize", "free")
 SIZES = (10000, 65536, 1048576)
+KEPT = "it is kept for want of room"
 LIMIT = 1.05  # no call may take more instructions than so many times the twin's
 
 
@@ -125,10 +126,15 @@ def resizes(heap):
             yield "resize an item, it moves to another class", "resize", item + 8, 8 * other + 8
         if empty is not None:
             yield "resize an item, it moves to a new page", "resize", item + 8, 8 * empty + 8
+            yield f"resize an item, {KEPT}", "resize", item + 8, 8 * empty + 8
         yield "resize an item, it moves to a block", "resize", item + 8, 300
     block = block_with(heap, lambda p, size: True)
     if block:
         yield "resize a block, it stays", "resize", block, state.capacity(block)
+        if class_with_items(state) is not None:
+            yield "resize a block, it moves to an item", "resize", block, 8 * class_with_items(state) + 8
+        if empty_class(state) is not None:
+            yield f"resize a block, {KEPT}", "resize", block, 8 * empty_class(state) + 8
     block = block_with(heap, lambda p, size: size >= 280 + 40)
     if block:
         yield "resize a block, it shrinks", "resize", block, state.capacity(block) - 40
@@ -150,13 +156,13 @@ def moves_of_blocks(heap):
 
 
 def calls_on(heap):
-    """What is measured on a heap: (name, call, address, size), only what is granted."""
+    """What is measured on a heap: (name, call, address, size), only what is granted as its name says."""
     yield "check", "check", 0, 0
     for sort in (allocations, frees, resizes):
         for name, call, address, size in sort(heap):
             trial = Heap(bytearray(heap.data))
             arguments = {"allocate": (size,), "free": (address,), "resize": (address, size)}[call]
-            if getattr(trial, call)(*arguments)[0] == 0:
+            if getattr(trial, call)(*arguments)[0] == 0 and bool(trial.kept) == name.endswith(KEPT):
                 yield name, call, address, size
 
 

@@ -562,9 +562,14 @@ static void copy(uint8_t *to, const uint8_t *from, uint64_t size)
     copy_chunk(to + last, from + last);
 }
 
+static uint64_t capacity_of(const struct live *live)
+{
+    return live->is_item ? 8 * live->class + 8 : live->size - 16;
+}
+
 static uint64_t move(uint8_t *h, struct live *live, uint64_t address, uint64_t size)
 {
-    uint64_t capacity = live->is_item ? 8 * live->class + 8 : live->size - 16;
+    uint64_t capacity = capacity_of(live);
     uint64_t one_before = live->previous_free ? previous_of(h, live->previous_free) : 0;
     uint64_t new = allocate(h, size);
 
@@ -623,6 +628,8 @@ uint64_t twin_resize(uint8_t *h, size_t n, uint64_t address, uint64_t size)
     if (resize_in_place(h, &live, size))
         return address;
     uint64_t new = move(h, &live, address, size);
+    if (new == 0 && size <= capacity_of(&live))
+        return address;
     return new ? new : refuse(NO_ROOM);
 }
 

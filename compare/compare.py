@@ -5,7 +5,7 @@
   compare.py --library FILE.. --seed S --only KIND:INDEX
 
 "--library bench/twin.c --prefix twin_" compares the plain C twin. The driver is
-built below target/compare. The figures of 01 that are run come first. A failure
+built below target/compare. The figures that are run come first. A failure
 prints the calls up to the first one that differs, and the status is 1.
 """
 
@@ -31,6 +31,7 @@ BATCH_BYTES = 16 << 20
 TIME_LIMIT = 120  # seconds for one batch, of which an emulator needs some
 STACK = struct.Struct("<QQQ")  # what the driver says last
 HEAPS_FROM_ONE = 25  # damaged heaps made from the same sound one
+KEPT_SHARE = 1000  # of so many calls in random runs one at least keeps its record for want of room
 
 
 class Difference(Exception):
@@ -185,7 +186,7 @@ def check_second(run):
 
 
 def figure_runs(figures, counts):
-    """Figures of 01. The second program answers what they say, and so must the library."""
+    """The figures that are run. The second program answers what they say, and so must the library."""
     for figure in figures:
         length, _, _ = FIGURES[figure]
         run = Run(f"figure:{figure}", bytes(length), 0, "zeros")
@@ -205,6 +206,7 @@ def random_runs(seed, number, counts):
         check_second(run)
         counts["calls"] += run.calls
         counts["heaps"] += 1
+        counts["kept"] += run.heap.kept
         index += 1
         yield run
 
@@ -283,7 +285,7 @@ def options():
 def main():
     chosen = options()
     began = time.monotonic()
-    counts = {"figures": 0, "calls": 0, "heaps": 0, "damaged": 0, "still sound": 0}
+    counts = {"figures": 0, "calls": 0, "heaps": 0, "kept": 0, "damaged": 0, "still sound": 0}
     driver = Driver(build_driver(chosen.library, chosen.prefix))
     try:
         if chosen.only:
@@ -294,6 +296,8 @@ def main():
                 driver.add(run)
             for run in random_runs(chosen.seed, chosen.number, counts):
                 driver.add(run)
+            if counts["kept"] * KEPT_SHARE < counts["calls"]:
+                raise SystemExit(f"compare: only {counts['kept']} of {counts['calls']} calls kept a record for want of room")
             for run in all_damaged_runs(chosen.seed, chosen.damaged, counts):
                 driver.add(run)
         driver.finish()
@@ -303,7 +307,7 @@ def main():
     stack = stack_used(driver, counts["calls"], chosen.stack)
     print(f"compare: {counts['figures']} figures, and from seed {chosen.seed} {counts['calls']} calls on "
           f"{counts['heaps']} heaps and {counts['damaged']} damaged heaps ({counts['still sound']} of them still sound) "
-          f"agree, {stack}, {time.monotonic() - began:.0f} s")
+          f"agree, {counts['kept']} records were kept for want of room, {stack}, {time.monotonic() - began:.0f} s")
     return 0
 
 

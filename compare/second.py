@@ -1,12 +1,12 @@
 #!/usr/bin/env python3
-"""A second, independent program for the heap of document 01.
+"""A second, independent program for the heap of document 01, as document 02 changes it.
 
 It keeps the heap as an abstract thing: blocks in order, pages with items, one
-list of free items for each class. The rules of 01 work on that. After each rule
-the parts that it changed are laid out over the old bytes, so every byte that no
+list of free items for each class. The rules work on that. After each rule the
+parts that it changed are laid out over the old bytes, so every byte that no
 rule names stays as it was.
 
-Run alone, it checks the figures of 01 and prints how many there were.
+Run alone, it checks the figures of 01 and 02 and prints how many there were.
 """
 
 import bisect
@@ -226,16 +226,18 @@ def sound(data):
 
 
 class Heap:
-    """The calls of 01 on a lent bytearray.
+    """The calls of 01, as 02 changes them, on a lent bytearray.
 
     The abstract heap is kept between calls. Whoever changes bytes other than
     those that may be anything must call decode afterwards. "writes" gathers
     (position, bytes) of all that the calls write; its reader may clear it.
+    "kept" counts the resizes that found no room and left their record as it is.
     """
 
     def __init__(self, data):
         self.data = data
         self.writes = []
+        self.kept = 0
         self.decode()
 
     def decode(self):
@@ -288,7 +290,7 @@ class Heap:
         if refusal:
             return refusal, 0
         stays = self._resize_item(address, size) or self._resize_block(address, size)
-        new = address if stays else self._move(address, size)
+        new = address if stays else self._move(address, size) or self._keep(address, size)
         self._lay_out_changes()
         return (GRANTED, new) if new else (NO_ROOM, 0)
 
@@ -446,6 +448,13 @@ class Heap:
         self._free(address)
         return new
 
+    def _keep(self, address, size):
+        """The address again, if what is there holds the size already: document 02, (i)."""
+        if size > self.state.capacity(address):
+            return None
+        self.kept += 1
+        return address
+
     # Changes of the free list, with all the blocks whose links they change.
 
     def _add_free(self, position, size):
@@ -573,13 +582,15 @@ def example_calls():
             yield name, *numbers, *map(int, line.split()[1:])
 
 
-# The figures of 01 that are run and not proved, on this program and, by compare.py, on the library: the length of a
-# buffer of zeros, calls with their refusals and addresses, and words by the positions where they then stand.
+# Figures of 01 and 02 that are run, on this program and, by compare.py, on the library: the length of a buffer of
+# zeros, calls with their refusals and addresses, and words by the positions where they then stand.
 FIGURES = {
     "block-of-280": (10000, [("initialise", 0, 0), ("allocate", 257, 0, 320)], {312: 282}),
     "page-at-312": (10000, [("initialise", 0, 0), ("allocate", 16, 0, 328), ("free", 48, 5, 0), ("free", 320, 5, 0)],
                     {312: 4123}),
     "call-list": (10000, list(example_calls()), {}),
+    "smaller-size": (1000, [("initialise", 0, 0), ("allocate", 300, 0, 320), ("resize", 320, 20, 0, 320),
+                            ("resize", 320, 304, 0, 320), ("resize", 320, 900, 6, 0)], {24: 632, 312: 322, 632: 368}),
 }
 
 
@@ -593,7 +604,7 @@ def played(figure, call, data):
 
 
 class SelfTest:
-    """The figures of 01, each counted once."""
+    """The figures, each counted once."""
 
     def __init__(self):
         self.count = 0
@@ -701,4 +712,4 @@ class SelfTest:
 
 
 if __name__ == "__main__":
-    print(f"second: {SelfTest().run()} checks of the figures of document 01 agree")
+    print(f"second: {SelfTest().run()} checks of the figures of documents 01 and 02 agree")

@@ -23,7 +23,7 @@
 extern "C" {
 #endif
 
-#define JAGWIBODU_VERSION "1.0"
+#define JAGWIBODU_VERSION "1.1"
 
 /* The lengths that a buffer may have; the largest size that can be asked for is the latter too. */
 #define JAGWIBODU_SHORTEST 344
@@ -81,8 +81,9 @@ uint64_t jagwibodu_check(const uint8_t *buffer, size_t length);
    4, or 6. */
 uint64_t jagwibodu_allocate(uint8_t *buffer, size_t length, uint64_t size);
 
-/* Gives the record at `address` a new size, where it stands or elsewhere, with the bytes that both sizes share. Refused
-   with 1 to 6; then the record stays as it was. */
+/* Gives the record at `address` a new size, where it stands or elsewhere, with the bytes that both sizes share. Where
+   there is no room elsewhere, a record that holds the new size already stays as it is, and the call is granted: 6 is
+   only for a size that the record cannot hold. Refused with 1 to 6; then the record stays as it was. */
 uint64_t jagwibodu_resize(uint8_t *buffer, size_t length, uint64_t address, uint64_t size);
 
 /* Gives the record at `address` back. Refused with 1, 2, 3 or 5. */

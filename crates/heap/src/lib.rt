@@ -1,4 +1,4 @@
-// The heap's calls. Each checks what it is lent: it does what document 01's rule says, or refuses and leaves every byte.
+// The heap's calls. Each checks what it is lent: it does what the rule of documents 01 and 02 says, or refuses and leaves every byte.
 pub mod counting;
 pub mod lookup;
 pub mod walking;
@@ -189,7 +189,7 @@ fn resized_or_not(t: sizing::Resized) -> Answer
     }
 }
 
-// Makes the record at a one of n bytes, there or elsewhere.
+// Makes the record at a one of n bytes, there or elsewhere; where there is no room, one that holds n bytes already stays as it is.
 pub fn resize(h: &mut [u8], a: Address, n: usize) -> Answer
     ensures { λ r. ⌜ Resizes wide (now (h .entry)) (a .0) n (outcome r (now (h .exit))) ⌝ }
 {

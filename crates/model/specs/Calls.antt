@@ -5,7 +5,7 @@ use mathlib.Core.Bool.{cond, _&&_}
 use mathlib.Core.List.{List, []}
 use mathlib.Core.Option.{Option, none, some}
 use lib.ListN.{length}
-use lib.Dec.{leb}
+use lib.Dec.{eqb, leb}
 use Rattle.words.specs.Word.{wordAt, put}
 use Rattle.words.specs.Copy.{copied}
 use Rattle.model.specs.Picture.{draw}
@@ -32,6 +32,10 @@ granted a b = record { refusal = 0; address = a; heap = b }
 -- the one number that the C host gets
 abbrev pub number : Outcome → ℕ
 number o = o .refusal * 2 ^ 32 + o .address
+
+-- an outcome, or the next one where it says "no room"
+abbrev pub orNext : Outcome → Outcome → Outcome
+orNext r next = cond (eqb (r .refusal) noRoom) next r
 
 -- of a call that only reads: its refusal, and what it answers
 pub record Told (A : Type 0) : Type 0 where
@@ -94,20 +98,28 @@ module _ (S : Shape) where
   abbrev pub Frees : List ℕ → ℕ → Outcome → Type 0
   Frees b a r = Checked b (refused b) (λ L. found (find S a L) (refused b notLive) (granted 0 (drawn (without a L) b))) r
 
-  -- Resize: in place, or else allocate, copy the smaller of old capacity and n, free the old
-  abbrev pub moved : List ℕ → ℕ → ℕ → Layout → Outcome
-  moved b a n L =
-      made b (allocate S n L) (λ m. drawn (without a (m .layout)) (copied a (m .at) (min (capacity S (find S a L)) n) (drawn (m .layout) b)))
+  -- Resize has three ways, and each says 6 where it is not open. In place:
+  abbrev pub stayed : List ℕ → ℕ → Option Layout → Outcome
+  stayed b a none = refused b noRoom
+  stayed b a (some L) = granted a (drawn L b)
 
-  abbrev pub resized : List ℕ → ℕ → Outcome → Option Layout → Outcome
-  resized b a move none = move
-  resized b a move (some L) = granted a (drawn L b)
+  -- elsewhere: allocate, copy the smaller of old capacity and n, free the old
+  abbrev pub movedBytes : List ℕ → ℕ → ℕ → Layout → Made → List ℕ
+  movedBytes b a n L m = drawn (without a (m .layout)) (copied a (m .at) (min (capacity S (find S a L)) n) (drawn (m .layout) b))
+
+  abbrev pub moved : List ℕ → ℕ → ℕ → Layout → Outcome
+  moved b a n L = made b (allocate S n L) (movedBytes b a n L)
+
+  -- as it is, where that holds n bytes
+  abbrev pub kept : List ℕ → ℕ → ℕ → Layout → Outcome
+  kept b a n L = cond (leb n (capacity S (find S a L))) (granted a b) (refused b noRoom)
+
+  -- THE RULE OF RESIZE, cited by its name: the first of the three that is open
+  unfoldable pub resized : List ℕ → ℕ → ℕ → Layout → Outcome
+  resized b a n L = found (find S a L) (refused b notLive) (orNext (stayed b a (stays S n (find S a L) L)) (orNext (moved b a n L) (kept b a n L)))
 
   abbrev pub Resizes : List ℕ → ℕ → ℕ → Outcome → Type 0
-  Resizes b a n r =
-      Checked b (refused b)
-      (λ L. sized n b (found (find S a L) (refused b notLive) (resized b a (moved b a n L) (stays S n (find S a L) L))))
-      r
+  Resizes b a n r = Checked b (refused b) (λ L. sized n b (resized b a n L)) r
 
   -- Look-up
   abbrev pub LooksUp : List ℕ → ℕ → Told (List ℕ) → Type 0

@@ -13,7 +13,7 @@ use Rattle.model.specs.Rules.{nothing, find, stays}
 use Rattle.model.specs.Live.{_∈_, InTurn, Payload, content, live}
 use Rattle.model.specs.Reading.{Step, Statistics, lookedUp}
 use Rattle.model.specs.Refusals.{badLength, notOpened, notSound, badSize, notLive, noRoom, alreadyOpened}
-use Rattle.model.specs.Calls.{Outcome, Told, refused, Lent, Initialises, Checks, Allocates, Frees, Resizes, LooksUp, Steps, Counts, Tabulates}
+use Rattle.model.specs.Calls.{Outcome, Told, refused, granted, Lent, Initialises, Checks, Allocates, Frees, Resizes, LooksUp, Steps, Counts, Tabulates}
 
 -- a call that may change the heap, by its sizes and addresses
 pub data Call : Type 0 where
@@ -164,12 +164,21 @@ module _ (S : Shape) where
       (n ≤ largestItem S → (getD (L .lists) (classOf n) [] ≡ []) × NoBlock (pageNeed S (classOf n)) L)
       × (largestItem S < n → NoBlock (needOf S n) L)
 
+  -- and from a resize exactly when, besides, the record x can neither stay nor hold n bytes as it is
+  abbrev pub NoRoomFor : Payload → ℕ → Layout → Type 0
+  NoRoomFor x n L = (stays S n (find S (x .address) L) L ≡ none) × NoRoom n L × (x .size < n)
+
   abbrev pub NoRoomExactly : Type 0
   NoRoomExactly =
       (b : List ℕ) (n : ℕ) (r : Outcome) (L : Layout) → Lent S b → Here S b L → 1 ≤ n → n ≤ S .most
       → (Allocates S b n r → (r .refusal ≡ noRoom) ↔ NoRoom n L)
-      × ((a : ℕ) (x : Payload) → x ∈ live S L → x .address ≡ a → Resizes S b a n r
-      → (r .refusal ≡ noRoom) ↔ ((stays S n (find S a L) L ≡ none) × NoRoom n L))
+      × ((x : Payload) → x ∈ live S L → Resizes S b (x .address) n r → (r .refusal ≡ noRoom) ↔ NoRoomFor x n L)
+
+  -- a size that the record x holds already is never refused: where x can neither stay nor move it is kept, and no byte changes
+  abbrev pub SmallerKept : Type 0
+  SmallerKept =
+      (b : List ℕ) (n : ℕ) (r : Outcome) (L : Layout) → Lent S b → Here S b L → (x : Payload) → x ∈ live S L → 1 ≤ n → n ≤ x .size
+      → Resizes S b (x .address) n r → (r .refusal ≡ 0) × (stays S n (find S (x .address) L) L ≡ none → NoRoom n L → r ≡ granted (x .address) b)
 
   -- Demand 3: bytes that differ from a heap's at most inside its live payloads
   abbrev pub Written : List ℕ → List ℕ → Type 0
@@ -203,7 +212,7 @@ module _ (S : Shape) where
       → (qs : List Call) (rs ts : List Reply) → Run (r .heap) qs rs → Run (t .heap) qs ts
       → ((a : ℕ) → record { refusal = noRoom; address = a } ∈ rs → ⊥) → rs ≡ ts
 
-  -- THE PROMISES: every demand of document 01 of heaps of this shape
+  -- THE PROMISES: every demand of document 01, as 02's requests change and add to them, of heaps of this shape
   pub record Promised : Type 0 where
     pub determined : Determined
     pub reading-determined : ReadingDetermined
@@ -223,4 +232,5 @@ module _ (S : Shape) where
     pub free-keeps : FreeKeeps
     pub resize-keeps : ResizeKeeps
     pub no-room-exactly : NoRoomExactly
+    pub smaller-kept : SmallerKept
     pub longer-agrees : LongerAgrees

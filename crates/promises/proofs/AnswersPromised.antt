@@ -98,7 +98,7 @@ answers-promised =
           let p = wide-promised .no-room-exactly b n (outcome r c) L l h one most in
           let g = is-refused why.NoRoom r c in (
             (λ x. let y = p .0 x in ((λ z. y .0 (g .0 z)), (λ z. g .1 (y .1 z)))),
-            (λ a v i at x. let y = p .1 a v i at x in ((λ z. y .0 (g .0 z)), (λ z. g .1 (y .1 z)))),
+            (λ v i x. let y = p .1 v i x in ((λ z. y .0 (g .0 z)), (λ z. g .1 (y .1 z)))),
           );
       not-live-exactly = λ b a r c L l h x.
           let g = is-refused why.NotLive r c in

@@ -1,8 +1,6 @@
 -- What any call answers of a sound heap, and leaves, is what the rules say of its layout.
 use Prim.Native.Nat.{ℕ, _≤_}
-use mathlib.Core.Path.{_≡_, refl, ap}
 use mathlib.Core.List.{List}
-use mathlib.Core.Option.{Option, none, some}
 use native.Mathlib.Omega.{arith}
 use native.Mathlib.Decide.{decLe}
 use borrow.Author.Tests.{le-leb, lt-leb}
@@ -10,42 +8,33 @@ use Rattle.words.specs.Width.{Width}
 use Rattle.model.specs.Shape.{shape}
 use Rattle.model.specs.Layout.{Layout}
 use Rattle.model.specs.Sound.{Here}
-use Rattle.model.specs.Rules.{Made, Found, block, thing, nothing, allocate, find, stays}
-use Rattle.model.specs.Refusals.{notLive, alreadyOpened}
-use Rattle.model.specs.Calls.{Outcome, refused, granted, Lent, sized, found, moved, resized}
+use Rattle.model.specs.Refusals.{alreadyOpened}
+use Rattle.model.specs.Calls.{Outcome, refused, granted, Lent, sized, resized}
 use Rattle.model.specs.Promises.{Call, initialising, checking, allocating, freeing, resizing, Comes}
 use Rattle.model.proofs.Good.{shape-good}
-use Rattle.model.proofs.lives.LiveFound.{isThere}
 use Rattle.model.proofs.lives.StayLives.{stays-stayed}
-use Rattle.model.proofs.rules.OnLayouts.{doing}
+use Rattle.model.proofs.rules.OnLayouts.{Done, doing}
+use Rattle.model.proofs.rules.ResizeWays.{Way, nowhere, inPlace, elsewhere, asItIs, noWay, way}
 use Rattle.promises.proofs.Answers.{Does, left, drew, does-same, answers}
 use Rattle.promises.proofs.Moved.{moved-does}
 
 module _ {w : ℕ} (wd : Width w) where
   module _ (b : List ℕ) (L : Layout) (l : Lent (shape w) b) (h : Here (shape w) b L) where
-    -- what a resize's contract says
-    abbrev resize : ℕ → ℕ → Outcome
-    resize a n = sized (shape w) n b (found (shape w) (find (shape w) a L) (refused b notLive) (resized (shape w) b a (moved (shape w) b a n L) (stays (shape w) n (find (shape w) a L) L)))
+    resized-does : {a n : ℕ} → 1 ≤ n → {o : Outcome} {d : Done} → Way (shape w) b a n L o d → Does wd b L o d
+    resized-does one (nowhere e) = left wd b L l h _ _
+    resized-does {a} {n} one (inPlace i M s) = drew wd b L l h a M (stays-stayed (shape w) (shape-good wd) n a one (h .valid) M s .valid)
+    resized-does {a} {n} one (elsewhere i s m k) = moved-does wd b L l h a n one m k i
+    resized-does one (asItIs i s k c) = left wd b L l h _ _
+    resized-does one (noWay i s k c) = left wd b L l h _ _
 
-    resizing-does : (a n : ℕ) → Does wd b L (resize a n) (doing (shape w) (resizing a n) L)
+    resizing-does : (a n : ℕ) → Does wd b L (sized (shape w) n b (resized (shape w) b a n L)) (doing (shape w) (resizing a n) L)
     unfolding doing
-    resizing-does a n = go (decLe 1 n) (decLe n (shape w .most)) (find (shape w) a L) refl (stays (shape w) n (find (shape w) a L) L) refl (allocate (shape w) n L) refl
+    resizing-does a n = go (decLe 1 n) (decLe n (shape w .most))
       where
-        go : Dec (1 ≤ n) → Dec (n ≤ (shape w .most)) → (f : Found) → find (shape w) a L ≡ f → (s : Option Layout) → stays (shape w) n (find (shape w) a L) L ≡ s → (o : Option Made) → allocate (shape w) n L ≡ o
-            → Does wd b L (resize a n) (doing (shape w) (resizing a n) L)
-        go (no i) j f e s k o m = rw (lt-leb 1 n (omega arith)) (left wd b L l h _ _)
-        go (yes i) (no j) f e s k o m = rw (le-leb 1 n i, lt-leb n (shape w .most) (omega arith)) (left wd b L l h _ _)
-        go (yes i) (yes j) nothing e s k o m = rw (le-leb 1 n i, le-leb n (shape w .most) j, e) (left wd b L l h _ _)
-        go (yes i) (yes j) (block t) e (some M) k o m =
-            rw (le-leb 1 n i, le-leb n (shape w .most) j, k, e) (drew wd b L l h _ M (stays-stayed (shape w) (shape-good wd) n a i (h .valid) M k .valid))
-        go (yes i) (yes j) (thing t c) e (some M) k o m =
-            rw (le-leb 1 n i, le-leb n (shape w .most) j, k, e) (drew wd b L l h _ M (stays-stayed (shape w) (shape-good wd) n a i (h .valid) M k .valid))
-        go (yes i) (yes j) (block t) e none k none m = rw (le-leb 1 n i, le-leb n (shape w .most) j, k, m, e) (left wd b L l h _ _)
-        go (yes i) (yes j) (thing t c) e none k none m = rw (le-leb 1 n i, le-leb n (shape w .most) j, k, m, e) (left wd b L l h _ _)
-        go (yes i) (yes j) (block t) e none k (some x) m =
-            rw (le-leb 1 n i, le-leb n (shape w .most) j, k, m, e) (rw e at (moved-does wd b L l h a n i x m (ap isThere e)))
-        go (yes i) (yes j) (thing t c) e none k (some x) m =
-            rw (le-leb 1 n i, le-leb n (shape w .most) j, k, m, e) (rw e at (moved-does wd b L l h a n i x m (ap isThere e)))
+        go : Dec (1 ≤ n) → Dec (n ≤ (shape w .most)) → Does wd b L (sized (shape w) n b (resized (shape w) b a n L)) (doing (shape w) (resizing a n) L)
+        go (no i) j = rw (lt-leb 1 n (omega arith)) (left wd b L l h _ _)
+        go (yes i) (no j) = rw (le-leb 1 n i, lt-leb n (shape w .most) (omega arith)) (left wd b L l h _ _)
+        go (yes i) (yes j) = rw (le-leb 1 n i, le-leb n (shape w .most) j) (resized-does i (way (shape w) b a n L))
 
     -- every call
     pub does : (q : Call) (r : Outcome) → Comes (shape w) b q r → Does wd b L r (doing (shape w) q L)
@@ -54,4 +43,4 @@ module _ {w : ℕ} (wd : Width w) where
     does checking r c = does-same wd b L l h r (granted 0 b) (doing (shape w) checking L) (c .sound l L h) (left wd b L l h _ _)
     does (allocating n) r c = answers wd b L l h (allocating n) tt r c
     does (freeing a) r c = answers wd b L l h (freeing a) tt r c
-    does (resizing a n) r c = does-same wd b L l h r (resize a n) (doing (shape w) (resizing a n) L) (c .sound l L h) (resizing-does a n)
+    does (resizing a n) r c = does-same wd b L l h r (sized (shape w) n b (resized (shape w) b a n L)) (doing (shape w) (resizing a n) L) (c .sound l L h) (resizing-does a n)

@@ -1,4 +1,4 @@
--- Document 01's starred figures, of the calls themselves: one table, one statement. At 8 bytes a word only, as the figures are.
+-- The figures' table, of the calls themselves: one statement. At 8 bytes a word only, as the figures are.
 use Prim.Native.Nat.{ℕ, _≤_}
 use mathlib.Core.Path.{_≡_, refl, sym, ap, ap₂, subst, _∙_}
 use mathlib.Core.Bool.{Bool, true, false, cond, _&&_}
@@ -22,7 +22,7 @@ use Rattle.model.specs.Calls.{Outcome, refused, Lent, Opened, Initialises}
 use Rattle.model.specs.Promises.{Call, initialising, checking, allocating, freeing, resizing, Comes, Reply}
 use Rattle.promises.specs.Figures.{says, word, Figure, figure, unchanged, table, Outcomes, heapThen, heapBefore, answered, OnBytes}
 use Rattle.model.proofs.Sizes.{eight}
-use Rattle.model.proofs.rules.OnLayouts.{doing}
+use Rattle.model.proofs.rules.OnLayouts.{resizedOn, doing}
 use Rattle.promises.proofs.Opened.{opened-fresh}
 use Rattle.promises.proofs.Doing.{does}
 
@@ -101,7 +101,7 @@ allStated (f ∷ fs) = stated f ∷ allStated fs
 
 -- the table, computed
 on-layouts : allComputed table ≡ allStated table
-unfolding table layoutThen layoutBefore lastOn lastFrom answersOn allBad lends answersFrom pictureFrom valueAt valuesAt values computed stated allComputed allStated doing headOf nextOf useSize sizeOf ends firstFree header slotWords useWords own blockWords headWords fixedLow fixedHigh words idleSlots fit before inFront cut slotTo useTo itemTo fromList fromPage anItem aBlock allocate inSlots findFrom freed shrunk grown reshaped stays
+unfolding table layoutThen layoutBefore lastOn lastFrom answersOn allBad lends answersFrom pictureFrom valueAt valuesAt values computed stated allComputed allStated resizedOn doing headOf nextOf useSize sizeOf ends firstFree header slotWords useWords own blockWords headWords fixedLow fixedHigh words idleSlots fit before inFront cut slotTo useTo itemTo fromList fromPage anItem aBlock allocate inSlots findFrom freed shrunk grown reshaped stays
 on-layouts = refl
 
 -- a picture's value is a word of bytes that show it

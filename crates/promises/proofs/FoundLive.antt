@@ -1,8 +1,7 @@
 -- What is found at an address is what is live there, and a look-up gives its content.
 use Prim.Native.Nat.{ℕ}
-use mathlib.Core.Path.{_≡_, refl, sym, ap, subst, _∙_}
+use mathlib.Core.Path.{_≡_, refl, sym, ap, subst}
 use mathlib.Core.List.{List}
-use mathlib.Core.Logic.{⊎-elim}
 use native.Mathlib.Omega.{arith}
 use lib.ListN.{take, drop}
 use Rattle.words.specs.Width.{Width}
@@ -15,16 +14,14 @@ use Rattle.model.specs.Promises.{FoundIsLive, LookUpShows}
 use Rattle.model.proofs.Good.{shape-good}
 use Rattle.model.proofs.lives.LiveFound.{isThere}
 use Rattle.model.proofs.lives.Moving.{found-live, live-found}
-use Rattle.model.proofs.lives.FreeLives.{Removed}
 
 pub is-there : (f : Found) → isThere f ≡ 1 → f ≡ nothing → ⊥
 is-there f e n = omega (arith, e, ap isThere n)
 
 module _ {w : ℕ} (wd : Width w) where
-  -- the payload that was found is the one that is live there
-  pub found-size : (end : ℕ) (L : Layout) (a : ℕ) (f : Found) → Removed (shape w) end L a f → (x : Payload) → x ∈ live (shape w) L → x .address ≡ a → x .size ≡ capacity (shape w) f
-  found-size end L a f r x h e =
-      ⊎-elim (λ i. absurd (r .adds .new x i (e ∙ sym (r .at)))) (λ i. ap (λ (y : Payload). y .size) i ∙ r .size) (r .adds .only x h)
+  -- what is live at an address has the capacity of what is found there
+  pub found-size : (end : ℕ) (L : Layout) (a : ℕ) → Valid (shape w) end L → (x : Payload) → x ∈ live (shape w) L → x .address ≡ a → x .size ≡ capacity (shape w) (find (shape w) a L)
+  found-size end L a v x h e = subst (λ (z : ℕ). x .size ≡ capacity (shape w) (find (shape w) z L)) e (sym (live-found (shape w) x (start (shape w)) (L .blocks) (shape-good wd) (v .allowed) h .large))
 
   pub found-is-live : FoundIsLive (shape w)
   found-is-live end L a v = (

@@ -136,7 +136,7 @@ module _ {w : ℕ} (wd : Width w) where
     beginning : (x : Payload) → x ∈ live (shape w) L → x .address ≡ a
         → take (min (x .size) n) (content (drawn (shape w) (without (shape w) a K) copiedBytes) (new .payload)) ≡ take (min (x .size) n) (content b x)
     beginning x k e =
-        let s : x .size ≡ capacity (shape w) (find (shape w) a L) = found-size wd (endOf (length b)) L a (find (shape w) a L) was x k e in
+        let s : x .size ≡ capacity (shape w) (find (shape w) a L) = found-size wd (endOf (length b)) L a (h .valid) x k e in
         let i = new .adds .kept x k in
         let y = new .payload in
         let low : min (x .size) n ≤ y .size = omega (arith, new .large, min-right (x .size) n) in

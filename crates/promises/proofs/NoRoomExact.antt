@@ -1,24 +1,29 @@
--- "No room" exactly when there is no item and no block that fits; for a resize, only where the record does not stay.
-use Prim.Native.Nat.{ℕ}
+-- "No room" exactly when there is no item and no block that fits; for a resize, where the record can neither stay nor hold n bytes as it is.
+use Prim.Native.Nat.{ℕ, _≤_, _<_}
 use mathlib.Core.Path.{_≡_, refl, sym, ap, _∙_}
 use mathlib.Core.List.{List}
 use mathlib.Core.Logic.{_↔_}
-use mathlib.Core.Option.{Option, none, some}
+use mathlib.Core.Option.{Option, none, some, Option·none-ne-some}
 use native.Mathlib.Omega.{arith}
 use lib.ListN.{length}
 use borrow.Author.Tests.{le-leb}
 use Rattle.words.specs.Width.{Width}
 use Rattle.model.specs.Shape.{shape, endOf}
 use Rattle.model.specs.Layout.{Layout}
-use Rattle.model.specs.Rules.{Made, Found, block, thing, nothing, allocate, find, stays}
+use Rattle.model.specs.Sound.{Here}
+use Rattle.model.specs.Rules.{Made, allocate, find, capacity, stays}
 use Rattle.model.specs.Live.{_∈_, Payload, live}
-use Rattle.model.specs.Refusals.{noRoom, notLive}
-use Rattle.model.specs.Calls.{Outcome, refused, drawn, found, made, resized, allocated, moved, Allocates, Resizes}
-use Rattle.model.specs.Promises.{NoRoom, NoRoomExactly}
+use Rattle.model.specs.Refusals.{noRoom}
+use Rattle.model.specs.Calls.{Outcome, granted, Lent, drawn, made, allocated, resized, Allocates, Resizes}
+use Rattle.model.specs.Promises.{NoRoom, NoRoomFor, NoRoomExactly, SmallerKept}
 use Rattle.model.proofs.Sizes.{per-page-bound}
+use Rattle.model.proofs.lives.Payloads.{in-area}
 use Rattle.model.proofs.lives.LiveFound.{isThere, live-is-there}
 use Rattle.model.proofs.Good.{shape-good}
+use Rattle.model.proofs.rules.OnLayouts.{Done}
+use Rattle.model.proofs.rules.ResizeWays.{Way, nowhere, inPlace, elsewhere, asItIs, noWay, way}
 use Rattle.model.proofs.rules.Room.{no-room}
+use Rattle.promises.proofs.FoundLive.{found-size}
 
 module _ {w : ℕ} (wd : Width w) where
   module _ (b : List ℕ) where
@@ -27,31 +32,51 @@ module _ {w : ℕ} (wd : Width w) where
     allocated-none none heap = ((λ e. refl), (λ e. refl))
     allocated-none (some m) heap = ((λ e. absurd (omega (arith, e))), (λ e. ap (λ (o : Option Made). made (shape w) b o heap .refusal) e))
 
-    stays-none : (a : ℕ) (o : Option Made) (heap : Made → List ℕ) (s : Option Layout) → (resized (shape w) b a (made (shape w) b o heap) s .refusal ≡ noRoom) ↔ ((s ≡ none) × (o ≡ none))
-    stays-none a o heap none = let k = allocated-none o heap in ((λ e. (refl, k .0 e)), (λ e. k .1 (e .1)))
-    stays-none a o heap (some M) = ((λ e. absurd (omega (arith, e))), (λ e. ap (λ (s : Option Layout). resized (shape w) b a (refused b noRoom) s .refusal) (e .0)))
+    resized-none : {a n : ℕ} {L : Layout} → isThere (find (shape w) a L) ≡ 1 → {o : Outcome} {d : Done} → Way (shape w) b a n L o d
+        → (o .refusal ≡ noRoom) ↔ ((stays (shape w) n (find (shape w) a L) L ≡ none) × (allocate (shape w) n L ≡ none) × (capacity (shape w) (find (shape w) a L) < n))
+    resized-none i (nowhere e) = absurd (omega (arith, i, ap isThere e))
+    resized-none i (inPlace _ M s) = ((λ e. absurd (omega (arith, e))), (λ e. absurd (Option·none-ne-some M (sym (e .0) ∙ s))))
+    resized-none i (elsewhere _ s m k) = ((λ e. absurd (omega (arith, e))), (λ e. absurd (Option·none-ne-some m (sym (e .1) ∙ k))))
+    resized-none i (asItIs _ s k c) = ((λ e. absurd (omega (arith, e))), (λ e. absurd (omega (arith, c, e .2))))
+    resized-none i (noWay _ s k c) = ((λ e. (s, k, c)), (λ e. refl))
+
+    -- and of one whose record holds n bytes already
+    resized-smaller : {a n : ℕ} {L : Layout} → isThere (find (shape w) a L) ≡ 1 → n ≤ capacity (shape w) (find (shape w) a L) → {o : Outcome} {d : Done} → Way (shape w) b a n L o d
+        → (o .refusal ≡ 0) × (stays (shape w) n (find (shape w) a L) L ≡ none → allocate (shape w) n L ≡ none → o ≡ granted a b)
+    resized-smaller i c (nowhere e) = absurd (omega (arith, i, ap isThere e))
+    resized-smaller i c (inPlace _ M s) = (refl, λ f g. absurd (Option·none-ne-some M (sym f ∙ s)))
+    resized-smaller i c (elsewhere _ s m k) = (refl, λ f g. absurd (Option·none-ne-some m (sym g ∙ k)))
+    resized-smaller i c (asItIs _ s k _) = (refl, λ f g. refl)
+    resized-smaller i c (noWay _ s k l) = absurd (omega (arith, c, l))
+
+  -- there is no room exactly when the rule finds none
+  room : (b : List ℕ) (n : ℕ) (L : Layout) → Here (shape w) b L → 1 ≤ n → (allocate (shape w) n L ≡ none) ↔ NoRoom (shape w) n L
+  room b n L h one = no-room (shape w) (endOf (length b)) n L (h .valid) one (λ c. per-page-bound wd c .0)
+
+  -- what a resize of a good size comes to
+  comes-to : (b : List ℕ) (a n : ℕ) (r : Outcome) (L : Layout) → Lent (shape w) b → Here (shape w) b L → 1 ≤ n → n ≤ shape w .most → Resizes (shape w) b a n r → r ≡ resized (shape w) b a n L
+  comes-to b a n r L l h one most c = rw (le-leb 1 n one, le-leb n (shape w .most) most) at (c .sound l L h)
+
+  pub smaller-kept : SmallerKept (shape w)
+  smaller-kept b n r L l h x i one le c =
+      let area = in-area (shape w) (endOf (length b)) L (h .valid) x i in
+      let e = comes-to b (x .address) n r L l h one (omega (arith, area .1, le, l .1)) c in
+      let s = found-size wd (endOf (length b)) L (x .address) (h .valid) x i refl in
+      let k = resized-smaller b (live-is-there (shape w) (shape-good wd) (h .valid) (x .address) x i refl) (omega (arith, le, s)) (way (shape w) b (x .address) n L) in
+      (ap (λ (o : Outcome). o .refusal) e ∙ k .0, λ f g. e ∙ k .1 f (room b n L h one .1 g))
 
   pub no-room-exactly : NoRoomExactly (shape w)
   no-room-exactly b n r L l h one most = (of-allocate, of-resize)
     where
-      room : (allocate (shape w) n L ≡ none) ↔ NoRoom (shape w) n L
-      room = no-room (shape w) (endOf (length b)) n L (h .valid) one (λ c. per-page-bound wd c .0)
-
       of-allocate : Allocates (shape w) b n r → (r .refusal ≡ noRoom) ↔ NoRoom (shape w) n L
       of-allocate c =
           let e : r ≡ allocated (shape w) b n L = rw (le-leb 1 n one, le-leb n (shape w .most) most) at (c .sound l L h) in
           let k = allocated-none b (allocate (shape w) n L) (λ m. drawn (shape w) (m .layout) b) in
-          ((λ f. room .0 (k .0 (sym (ap (λ (o : Outcome). o .refusal) e) ∙ f))), (λ f. ap (λ (o : Outcome). o .refusal) e ∙ k .1 (room .1 f)))
+          ((λ f. room b n L h one .0 (k .0 (sym (ap (λ (o : Outcome). o .refusal) e) ∙ f))), (λ f. ap (λ (o : Outcome). o .refusal) e ∙ k .1 (room b n L h one .1 f)))
 
-      of-resize : (a : ℕ) (x : Payload) → x ∈ live (shape w) L → x .address ≡ a → Resizes (shape w) b a n r → (r .refusal ≡ noRoom) ↔ ((stays (shape w) n (find (shape w) a L) L ≡ none) × NoRoom (shape w) n L)
-      of-resize a x i at c =
-          let e : r ≡ found (shape w) (find (shape w) a L) (refused b notLive) (resized (shape w) b a (moved (shape w) b a n L) (stays (shape w) n (find (shape w) a L) L)) = rw (le-leb 1 n one, le-leb n (shape w .most) most) at (c .sound l L h) in
-          let f : r ≡ resized (shape w) b a (moved (shape w) b a n L) (stays (shape w) n (find (shape w) a L) L) = e ∙ go (find (shape w) a L) (live-is-there (shape w) (shape-good wd) (h .valid) a x i at) in
-          let k = stays-none b a (allocate (shape w) n L) _ (stays (shape w) n (find (shape w) a L) L) in
-          ((λ g. let y = k .0 (sym (ap (λ (o : Outcome). o .refusal) f) ∙ g) in (y .0, room .0 (y .1))), (λ g. ap (λ (o : Outcome). o .refusal) f ∙ k .1 (g .0, room .1 (g .1))))
-        where
-          go : (y : Found) → isThere y ≡ 1
-              → found (shape w) y (refused b notLive) (resized (shape w) b a (moved (shape w) b a n L) (stays (shape w) n (find (shape w) a L) L)) ≡ resized (shape w) b a (moved (shape w) b a n L) (stays (shape w) n (find (shape w) a L) L)
-          go nothing z = absurd (omega arith)
-          go (block t) z = refl
-          go (thing o d) z = refl
+      of-resize : (x : Payload) → x ∈ live (shape w) L → Resizes (shape w) b (x .address) n r → (r .refusal ≡ noRoom) ↔ NoRoomFor (shape w) x n L
+      of-resize x i c =
+          let e = comes-to b (x .address) n r L l h one most c in
+          let k = resized-none b (live-is-there (shape w) (shape-good wd) (h .valid) (x .address) x i refl) (way (shape w) b (x .address) n L) in
+          let s = found-size wd (endOf (length b)) L (x .address) (h .valid) x i refl in
+          ((λ f. let y = k .0 (sym (ap (λ (o : Outcome). o .refusal) e) ∙ f) in (y .0, room b n L h one .0 (y .1), omega (arith, y .2, s))), (λ f. ap (λ (o : Outcome). o .refusal) e ∙ k .1 (f .0, room b n L h one .1 (f .1), omega (arith, f .2, s))))

@@ -1,5 +1,5 @@
 -- Which numbers a call can answer at all.
-use Prim.Native.Nat.{ℕ, min}
+use Prim.Native.Nat.{ℕ}
 use mathlib.Core.Path.{_≡_, refl, ap, sym, subst, _∙_}
 use mathlib.Core.Bool.{Bool, true, false, cond, _&&_, false≢true}
 use mathlib.Core.List.{List, [], _∷_}
@@ -8,15 +8,16 @@ use mathlib.Core.Option.{Option, none, some}
 use native.Mathlib.Decide.{ℕ-discrete}
 use lib.Dec.{eqb, leb}
 use borrow.Author.Tests.{ne-eqb}
-use Rattle.words.specs.Copy.{copied}
 use Rattle.model.specs.Shape.{Shape}
 use Rattle.model.specs.Layout.{Layout}
-use Rattle.model.specs.Rules.{Made, Found, block, thing, nothing, allocate, find, stays, capacity}
+use Rattle.model.specs.Rules.{Made, Found, block, thing, nothing, allocate, find}
 use Rattle.model.specs.Reading.{counted, table, lookedUp, ended, step}
 use Rattle.model.specs.Live.{_∈_}
 use Rattle.model.specs.Refusals.{badLength, notOpened, notSound, badSize, notLive, noRoom, alreadyOpened}
-use Rattle.model.specs.Calls.{Outcome, Told, refused, granted, Checked, sized, found, made, resized, allocated, moved, drawn, without}
+use Rattle.model.specs.Calls.{Outcome, Told, refused, granted, Checked, sized, found, made, allocated, drawn, without, resized}
 use Rattle.model.specs.Promises.{initialising, checking, allocating, freeing, resizing, numbersOf, readingNumbers, lookUpNumbers, Comes, AnswersOnly, ReadingAnswersOnly}
+use Rattle.model.proofs.rules.OnLayouts.{Done}
+use Rattle.model.proofs.rules.ResizeWays.{Way, nowhere, inPlace, elsewhere, asItIs, noWay, way}
 use Rattle.promises.proofs.Cases.{checked-cases, opening-cases}
 
 -- a number that cannot be missing from a list stands in it
@@ -60,9 +61,12 @@ module _ (S : Shape) (b : List ℕ) (l : List ℕ) where
   made-in none heap z h = h
   made-in (some m) heap z h = z
 
-  resized-in : (a : ℕ) (move : Outcome) (s : Option Layout) → 0 ∈ l → move .refusal ∈ l → resized S b a move s .refusal ∈ l
-  resized-in a move none z h = h
-  resized-in a move (some M) z h = z
+  resized-in : {a n : ℕ} {L : Layout} {o : Outcome} {d : Done} → Way S b a n L o d → 0 ∈ l → notLive ∈ l → noRoom ∈ l → o .refusal ∈ l
+  resized-in (nowhere e) z d h = d
+  resized-in (inPlace i M s) z d h = z
+  resized-in (elsewhere i s m k) z d h = z
+  resized-in (asItIs i s k c) z d h = z
+  resized-in (noWay i s k c) z d h = h
 
   -- what is equal to something with a number in the list has one
   same-in : {A : Type 0} (number : A → ℕ) {r o : A} → r ≡ o → number o ∈ l → number r ∈ l
@@ -104,12 +108,8 @@ answers-only S b (freeing a) r c =
     r c
 answers-only S b (resizing a n) r c =
     let l = numbersOf (resizing a n) in
-    let after : Layout → Outcome = λ L. resized S b a (moved S b a n L) (stays S n (find S a L) L) in
-    refused-in S b l (stands badLength l refl) (stands notOpened l refl) (stands notSound l refl) (λ L. sized S n b (found S (find S a L) (refused b notLive) (after L)))
-    (λ L. sized-in S b l n (found S (find S a L) (refused b notLive) (after L)) (stands badSize l refl)
-    (found-in S b l (λ (o : Outcome). o .refusal) (find S a L) (refused b notLive) (after L) (stands notLive l refl)
-    (resized-in S b l a (moved S b a n L) (stays S n (find S a L) L) (stands 0 l refl)
-    (made-in S b l (allocate S n L) (λ m. drawn S (without S a (m .layout)) (copied a (m .at) (min (capacity S (find S a L)) n) (drawn S (m .layout) b))) (stands 0 l refl) (stands noRoom l refl)))))
+    refused-in S b l (stands badLength l refl) (stands notOpened l refl) (stands notSound l refl) (λ L. sized S n b (resized S b a n L))
+    (λ L. sized-in S b l n (resized S b a n L) (stands badSize l refl) (resized-in S b l (way S b a n L) (stands 0 l refl) (stands notLive l refl) (stands noRoom l refl)))
     r c
 
 pub reading-answers-only : (S : Shape) → ReadingAnswersOnly S

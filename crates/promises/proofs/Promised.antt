@@ -16,7 +16,7 @@ use Rattle.promises.proofs.Opened.{opens-sound}
 use Rattle.promises.proofs.AllocateKept.{allocate-keeps}
 use Rattle.promises.proofs.FreeKept.{free-keeps}
 use Rattle.promises.proofs.ResizeKept.{resize-keeps}
-use Rattle.promises.proofs.NoRoomExact.{no-room-exactly}
+use Rattle.promises.proofs.NoRoomExact.{no-room-exactly, smaller-kept}
 use Rattle.promises.proofs.Longer.{longer-agrees}
 
 pub promised : {w : ℕ} → Width w → Promised (shape w)
@@ -40,6 +40,7 @@ promised {w} wd =
       free-keeps = free-keeps wd;
       resize-keeps = resize-keeps wd;
       no-room-exactly = no-room-exactly wd;
+      smaller-kept = smaller-kept wd;
       longer-agrees = longer-agrees wd;
     }
 

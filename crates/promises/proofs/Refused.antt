@@ -7,10 +7,12 @@ use mathlib.Core.Option.{Option, none, some}
 use lib.Dec.{leb}
 use Rattle.model.specs.Shape.{Shape}
 use Rattle.model.specs.Layout.{Layout}
-use Rattle.model.specs.Rules.{Made, Found, block, thing, nothing, allocate, find, stays}
+use Rattle.model.specs.Rules.{Made, Found, block, thing, nothing, allocate, find}
 use Rattle.model.specs.Refusals.{badLength, notOpened, notSound, badSize, notLive, alreadyOpened}
-use Rattle.model.specs.Calls.{Outcome, refused, granted, Checked, sized, found, made, resized, allocated, moved, drawn, without, Initialises}
+use Rattle.model.specs.Calls.{Outcome, refused, granted, Checked, sized, found, made, allocated, drawn, without, movedBytes, resized, Initialises}
 use Rattle.model.specs.Promises.{initialising, checking, allocating, freeing, resizing, Comes, RefusedUntouched}
+use Rattle.model.proofs.rules.OnLayouts.{Done}
+use Rattle.model.proofs.rules.ResizeWays.{Way, nowhere, inPlace, elsewhere, asItIs, noWay, way}
 use Rattle.promises.proofs.Stable.{outcomes}
 use Rattle.promises.proofs.Cases.{checked-cases, opening-cases}
 
@@ -45,9 +47,12 @@ module _ (b : List ℕ) where
     made-plain none heap = λ n. refl
     made-plain (some m) heap = as-granted (m .at) (heap m)
 
-    resized-plain : (a : ℕ) (move : Outcome) (s : Option Layout) → Plainly move → Plainly (resized S b a move s)
-    resized-plain a move none p = p
-    resized-plain a move (some L) p = as-granted a (drawn S L b)
+    resized-plain : (a n : ℕ) (L : Layout) {o : Outcome} {d : Done} → Way S b a n L o d → Plainly o
+    resized-plain a n L (nowhere e) = λ n. refl
+    resized-plain a n L (inPlace i M s) = as-granted a (drawn S M b)
+    resized-plain a n L (elsewhere i s m k) = as-granted (m .at) (movedBytes S b a n L m)
+    resized-plain a n L (asItIs i s k c) = as-granted a b
+    resized-plain a n L (noWay i s k c) = λ n. refl
 
     checked-plain : (rule : Layout → Outcome) → ((L : Layout) → Plainly (rule L)) → (r : Outcome) → Checked S b (refused b) rule r → Plainly r
     checked-plain rule p r c n =
@@ -69,7 +74,4 @@ refused-untouched S b (freeing a) r c =
     checked-plain b S (λ L. found S (find S a L) (refused b notLive) (granted 0 (drawn S (without S a L) b)))
     (λ L. found-plain b S (find S a L) (granted 0 (drawn S (without S a L) b)) (as-granted b 0 (drawn S (without S a L) b))) r c
 refused-untouched S b (resizing a n) r c =
-    checked-plain b S (λ L. sized S n b (found S (find S a L) (refused b notLive) (resized S b a (moved S b a n L) (stays S n (find S a L) L))))
-    (λ L. sized-plain b S n (found S (find S a L) (refused b notLive) (resized S b a (moved S b a n L) (stays S n (find S a L) L)))
-    (found-plain b S (find S a L) (resized S b a (moved S b a n L) (stays S n (find S a L) L))
-    (resized-plain b S a (moved S b a n L) (stays S n (find S a L) L) (made-plain b S (allocate S n L) _)))) r c
+    checked-plain b S (λ L. sized S n b (resized S b a n L)) (λ L. sized-plain b S n (resized S b a n L) (resized-plain b S a n L (way S b a n L))) r c

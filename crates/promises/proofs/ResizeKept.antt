@@ -2,29 +2,30 @@
 use Prim.Native.Nat.{ℕ, _≤_, min}
 use mathlib.Core.Path.{_≡_, refl, sym, ap, subst, _∙_}
 use mathlib.Core.List.{List}
-use mathlib.Core.Option.{Option, none, some}
+use mathlib.Core.Logic.{inl}
 use native.Mathlib.Omega.{arith}
 use native.Mathlib.Decide.{decLe}
 use native.Mathlib.Nat.{min-le-left, min-le-right}
 use lib.ListN.{length, take, drop}
 use borrow.Author.Tests.{le-leb, lt-leb}
 use Rattle.words.specs.Width.{Width}
-use Rattle.words.specs.Copy.{copied}
 use Rattle.model.specs.Shape.{shape, endOf}
 use Rattle.model.specs.Layout.{Layout}
 use Rattle.model.specs.Sound.{Here}
-use Rattle.model.specs.Rules.{Made, Found, block, thing, nothing, allocate, find, capacity, stays}
-use Rattle.model.specs.Refusals.{badSize, notLive, noRoom}
-use Rattle.model.specs.Calls.{Outcome, refused, granted, Lent, drawn, found, without, resized, moved, Resizes}
-use Rattle.model.specs.Promises.{ResizeKept, Comes, ResizeKeeps}
+use Rattle.model.specs.Rules.{find, capacity}
+use Rattle.model.specs.Refusals.{badSize}
+use Rattle.model.specs.Calls.{Outcome, refused, granted, Lent, drawn, resized, Resizes}
+use Rattle.model.specs.Promises.{resizing, ResizeKept, Comes, ResizeKeeps}
 use Rattle.model.proofs.Good.{shape-good}
 use Rattle.model.proofs.lives.Payloads.{content-kept}
 use Rattle.sound.proofs.OneLayout.{one-layout}
-use Rattle.promises.proofs.Answers.{draws}
-use Rattle.model.proofs.lives.LiveFound.{isThere}
 use Rattle.model.proofs.lives.StayLives.{Stayed, stays-stayed}
+use Rattle.model.proofs.rules.OnLayouts.{Done, resizedOn, doing}
+use Rattle.model.proofs.rules.ResizeWays.{Way, nowhere, inPlace, elsewhere, asItIs, noWay, way}
+use Rattle.promises.proofs.FoundLive.{found-size}
 use Rattle.promises.proofs.Parts.{take-take}
-use Rattle.promises.proofs.Moved.{moved-here, moved-kept}
+use Rattle.promises.proofs.Moved.{moved-kept}
+use Rattle.promises.proofs.Doing.{does}
 
 module _ {w : ℕ} (wd : Width w) where
   -- in place
@@ -45,58 +46,43 @@ module _ {w : ℕ} (wd : Width w) where
     (λ n. absurd (n refl)),
   )
 
-  -- a granted resize leaves a heap with a layout, and what is promised holds of it
-  pub record ResizedTo (b : List ℕ) (a n : ℕ) (L : Layout) (r : Outcome) : Type 0 where
-    pub layout : Layout
-    pub here : Here (shape w) (r .heap) layout
-    pub kept : ResizeKept (shape w) b a n L r layout
+  module _ (b : List ℕ) (a n : ℕ) (L : Layout) (l : Lent (shape w) b) (h : Here (shape w) b L) where
+    -- as it is
+    unmoved-kept : n ≤ capacity (shape w) (find (shape w) a L) → ResizeKept (shape w) b a n L (granted a b) L
+    unmoved-kept c = (
+      (λ x i o. (i, refl)),
+      (λ x i. inl i),
+      (λ x i e. (x, i, e, omega (arith, c, found-size wd (endOf (length b)) L a (h .valid) x i e), refl)),
+      (λ o. absurd (o refl)),
+    )
 
-  module _ (b : List ℕ) (a n : ℕ) (L : Layout) (r : Outcome) (l : Lent (shape w) b) (h : Here (shape w) b L) (g : r .refusal ≡ 0) where
-    resized-as : (o : Outcome) (M : Layout) → r ≡ o → Here (shape w) (o .heap) M → ResizeKept (shape w) b a n L o M → ResizedTo b a n L r
-    resized-as o M e k c = record { layout = M; here = subst (λ (x : Outcome). Here (shape w) (x .heap) M) (sym e) k; kept = subst (λ (x : Outcome). ResizeKept (shape w) b a n L x M) (sym e) c }
+    -- each way that is granted
+    way-kept : 1 ≤ n → {o : Outcome} {d : Done} → Way (shape w) b a n L o d → o .refusal ≡ 0 → ResizeKept (shape w) b a n L o (d .layout)
+    way-kept one (nowhere e) g = absurd (omega (arith, g))
+    way-kept one (inPlace i M s) g = stayed-kept b a n L M (stays-stayed (shape w) (shape-good wd) n a one (h .valid) M s)
+    way-kept one (elsewhere i s m k) g = moved-kept wd b L l h a n one m k i
+    way-kept one (asItIs i s k c) g = unmoved-kept c
+    way-kept one (noWay i s k c) g = absurd (omega (arith, g))
 
-    not-refused : (k : ℕ) → 1 ≤ k → r ≡ refused b k → ⊥
-    not-refused k i e = omega (arith, g, ap (λ (x : Outcome). x .refusal) e)
-
-    moves : 1 ≤ n → isThere (find (shape w) a L) ≡ 1 → r ≡ moved (shape w) b a n L → ResizedTo b a n L r
-    moves one there e = go (allocate (shape w) n L) refl
+    -- none is granted for a bad size
+    resize-kept : (r : Outcome) → Resizes (shape w) b a n r → r .refusal ≡ 0 → ResizeKept (shape w) b a n L r (doing (shape w) (resizing a n) L .layout)
+    unfolding doing
+    resize-kept r c g = go (decLe 1 n) (decLe n (shape w .most))
       where
-        go : (o : Option Made) → allocate (shape w) n L ≡ o → ResizedTo b a n L r
-        go none k = absurd (not-refused noRoom (omega arith) (rw k at e))
-        go (some m) k =
-            resized-as (granted (m .at) (drawn (shape w) (without (shape w) a (m .layout)) (copied a (m .at) (min (capacity (shape w) (find (shape w) a L)) n) (drawn (shape w) (m .layout) b)))) (without (shape w) a (m .layout)) (rw k at e)
-            (moved-here wd b L l h a n one m k there) (moved-kept wd b L l h a n one m k there)
+        not-refused : r ≡ refused b badSize → ⊥
+        not-refused e = omega (arith, g, ap (λ (x : Outcome). x .refusal) e)
 
-    stays-or-moves : 1 ≤ n → isThere (find (shape w) a L) ≡ 1 → r ≡ resized (shape w) b a (moved (shape w) b a n L) (stays (shape w) n (find (shape w) a L) L) → ResizedTo b a n L r
-    stays-or-moves one there e = go (stays (shape w) n (find (shape w) a L) L) refl
-      where
-        go : (o : Option Layout) → stays (shape w) n (find (shape w) a L) L ≡ o → ResizedTo b a n L r
-        go none k = moves one there (rw k at e)
-        go (some M) k =
-            let s = stays-stayed (shape w) (shape-good wd) n a one (h .valid) M k in
-            resized-as (granted a (drawn (shape w) M b)) M (rw k at e) (draws wd b L l h M (s .valid)) (stayed-kept b a n L M s)
-
-    pub resize-result : Resizes (shape w) b a n r → ResizedTo b a n L r
-    resize-result c = go (decLe 1 n) (decLe n (shape w .most)) (find (shape w) a L) refl
-      where
-        after-size : 1 ≤ n → n ≤ (shape w .most) → r ≡ found (shape w) (find (shape w) a L) (refused b notLive) (resized (shape w) b a (moved (shape w) b a n L) (stays (shape w) n (find (shape w) a L) L))
-        after-size i j = rw (le-leb 1 n i, le-leb n (shape w .most) j) at (c .sound l L h)
-
-        there : (f : Found) → isThere f ≡ 1 → found (shape w) f (refused b notLive) (resized (shape w) b a (moved (shape w) b a n L) (stays (shape w) n (find (shape w) a L) L)) ≡ resized (shape w) b a (moved (shape w) b a n L) (stays (shape w) n (find (shape w) a L) L)
-        there nothing z = absurd (omega arith)
-        there (block t) z = refl
-        there (thing o d) z = refl
-
-        go : Dec (1 ≤ n) → Dec (n ≤ (shape w .most)) → (f : Found) → find (shape w) a L ≡ f → ResizedTo b a n L r
-        go (no i) j f k = absurd (not-refused badSize (omega arith) (rw (lt-leb 1 n (omega arith)) at (c .sound l L h)))
-        go (yes i) (no j) f k = absurd (not-refused badSize (omega arith) (rw (le-leb 1 n i, lt-leb n (shape w .most) (omega arith)) at (c .sound l L h)))
-        go (yes i) (yes j) nothing k =
-            absurd (not-refused notLive (omega arith) (after-size i j ∙ ap (λ (f : Found). found (shape w) f (refused b notLive) (resized (shape w) b a (moved (shape w) b a n L) (stays (shape w) n (find (shape w) a L) L))) k))
-        go (yes i) (yes j) (block t) k = stays-or-moves i (ap isThere k) (after-size i j ∙ there (find (shape w) a L) (ap isThere k))
-        go (yes i) (yes j) (thing o d) k = stays-or-moves i (ap isThere k) (after-size i j ∙ there (find (shape w) a L) (ap isThere k))
+        go : Dec (1 ≤ n) → Dec (n ≤ (shape w .most)) → ResizeKept (shape w) b a n L r (doing (shape w) (resizing a n) L .layout)
+        go (no i) j = absurd (not-refused (rw (lt-leb 1 n (omega arith)) at (c .sound l L h)))
+        go (yes i) (no j) = absurd (not-refused (rw (le-leb 1 n i, lt-leb n (shape w .most) (omega arith)) at (c .sound l L h)))
+        go (yes i) (yes j) =
+            let e : r ≡ resized (shape w) b a n L = rw (le-leb 1 n i, le-leb n (shape w .most) j) at (c .sound l L h) in
+            rw (le-leb 1 n i, le-leb n (shape w .most) j)
+            (subst (λ (x : Outcome). ResizeKept (shape w) b a n L x (resizedOn (shape w) a n L .layout)) (sym e) (way-kept i (way (shape w) b a n L) (sym (ap (λ (x : Outcome). x .refusal) e) ∙ g)))
 
   pub resize-keeps : ResizeKeeps (shape w)
   unfolding Comes
   resize-keeps b a n r L M g =
-      let k = resize-result b a n L r (g .lent) (g .here) (g .granted) (g .comes) in
-      subst (λ (N : Layout). ResizeKept (shape w) b a n L r N) (one-layout wd (r .heap) (k .layout) M (k .here) (g .then)) (k .kept)
+      let left = does wd b L (g .lent) (g .here) (resizing a n) r (g .comes) in
+      subst (λ (N : Layout). ResizeKept (shape w) b a n L r N) (one-layout wd (r .heap) (doing (shape w) (resizing a n) L .layout) M (left .here) (g .then))
+      (resize-kept b a n L (g .lent) (g .here) r (g .comes) (g .granted))

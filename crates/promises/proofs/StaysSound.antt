@@ -14,8 +14,7 @@ use Rattle.model.specs.Promises.{Call, initialising, checking, allocating, free
 use Rattle.model.proofs.rules.OnLayouts.{doing}
 use Rattle.promises.proofs.Refused.{refused-untouched}
 use Rattle.promises.proofs.Opened.{opens-sound}
-use Rattle.promises.proofs.Answers.{answers}
-use Rattle.promises.proofs.ResizeKept.{resize-result}
+use Rattle.promises.proofs.Doing.{does}
 
 module _ {w : ℕ} (wd : Width w) where
   -- a call is granted only of a buffer of a good length
@@ -27,14 +26,18 @@ module _ {w : ℕ} (wd : Width w) where
       go (no m) y = absurd (omega (arith, g, ap (λ (o : Outcome). o .refusal) (c .one (λ l. m (l .0)))))
       go (yes x) (no m) = absurd (omega (arith, g, ap (λ (o : Outcome). o .refusal) (c .one (λ l. m (l .1)))))
 
+  -- what a call does leaves a layout
+  done-sound : (b : List ℕ) (q : Call) (r : Outcome) → Comes (shape w) b q r → Lent (shape w) b → (L : Layout) → Here (shape w) b L → Sound (shape w) (r .heap)
+  done-sound b q r c l L h = record { layout = doing (shape w) q L .layout; here = does wd b L l h q r c .here }
+
   -- a granted call
   granted-sound : (b : List ℕ) (q : Call) (r : Outcome) → Comes (shape w) b q r → r .refusal ≡ 0 → (L : Layout) → Here (shape w) b L → Sound (shape w) (r .heap)
   unfolding Comes
   granted-sound b initialising r c g L h = opens-sound wd b r c g
-  granted-sound b checking r c g L h = record { layout = L; here = subst (λ (o : Outcome). Here (shape w) (o .heap) L) (sym (c .sound (lent-of b _ r c g) L h)) h }
-  granted-sound b (allocating n) r c g L h = record { layout = doing (shape w) (allocating n) L .layout; here = answers wd b L (lent-of b _ r c g) h (allocating n) tt r c .here }
-  granted-sound b (freeing a) r c g L h = record { layout = doing (shape w) (freeing a) L .layout; here = answers wd b L (lent-of b _ r c g) h (freeing a) tt r c .here }
-  granted-sound b (resizing a n) r c g L h = let k = resize-result wd b a n L r (lent-of b _ r c g) h g c in record { layout = k .layout; here = k .here }
+  granted-sound b checking r c g L h = done-sound b checking r c (lent-of b _ r c g) L h
+  granted-sound b (allocating n) r c g L h = done-sound b (allocating n) r c (lent-of b _ r c g) L h
+  granted-sound b (freeing a) r c g L h = done-sound b (freeing a) r c (lent-of b _ r c g) L h
+  granted-sound b (resizing a n) r c g L h = done-sound b (resizing a n) r c (lent-of b _ r c g) L h
 
   pub stays-sound : StaysSound (shape w)
   stays-sound b q r c s = go (ℕ-discrete (r .refusal) 0)

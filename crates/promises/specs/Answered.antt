@@ -3,16 +3,14 @@ use Prim.Native.Nat.{ℕ, _≤_}
 use mathlib.Core.Path.{_≡_}
 use mathlib.Core.Logic.{_↔_}
 use mathlib.Core.List.{List}
-use mathlib.Core.Option.{none}
 use denote.Ref.{RefT, now, ptr}
 use Rattle.model.specs.Shape.{wide}
 use Rattle.model.specs.Layout.{Layout}
 use Rattle.model.specs.Sound.{Here, Sound}
-use Rattle.model.specs.Rules.{find, stays}
 use Rattle.model.specs.Live.{_∈_, Payload, live}
 use Rattle.model.specs.Walking.{column}
 use Rattle.model.specs.Calls.{Lent, granted, Steps, Counts}
-use Rattle.model.specs.Promises.{Call, initialising, checking, allocating, freeing, resizing, numbersOf, Comes, AllocateKept, FreeKept, ResizeKept, NoRoom}
+use Rattle.model.specs.Promises.{Call, initialising, checking, allocating, freeing, resizing, numbersOf, Comes, AllocateKept, FreeKept, ResizeKept, NoRoom, NoRoomFor}
 use Rattle.model.specs.declared.Address.{Address}
 use Rattle.heap.specs.declared.Answer.{Answer}
 use Rattle.heap.specs.declared.Answer.the-variants.{Granted, Refused}
@@ -64,7 +62,7 @@ pub record AnswersPromised : Type 0 where
   -- 6 exactly where the rule finds nothing, and 5 exactly where nothing is live
   pub no-room-exactly : (b : List ℕ) (n : ℕ) (r : Answer) (c : List ℕ) (L : Layout) → Lent wide b → Here wide b L → 1 ≤ n → n ≤ wide .most
       → (MayAnswer b (allocating n) r c → (r ≡ Refused why.NoRoom) ↔ NoRoom wide n L)
-      × ((a : ℕ) (x : Payload) → x ∈ live wide L → x .address ≡ a → MayAnswer b (resizing a n) r c → (r ≡ Refused why.NoRoom) ↔ ((stays wide n (find wide a L) L ≡ none) × NoRoom wide n L))
+      × ((x : Payload) → x ∈ live wide L → MayAnswer b (resizing (x .address) n) r c → (r ≡ Refused why.NoRoom) ↔ NoRoomFor wide x n L)
   pub not-live-exactly : (b : List ℕ) (a : ℕ) (r : Answer) (c : List ℕ) (L : Layout) → Lent wide b → Here wide b L
       → MayAnswer b (freeing a) r c → (r ≡ Refused why.NotLive) ↔ ((x : Payload) → x ∈ live wide L → x .address ≡ a → ⊥)
   -- the table's columns add up to the statistics of the same heap

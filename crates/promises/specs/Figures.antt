@@ -1,4 +1,4 @@
--- Document 01's starred figures as a table about the calls, and how much room an allocation needs. At 8 bytes a word only, as the figures are.
+-- Document 01's starred figures and those of 02's requests as a table about the calls, and how much room an allocation needs. At 8 bytes a word only, as the figures are.
 use Prim.Native.Nat.{ℕ, _≤_, _<_}
 use mathlib.Core.Path.{_≡_}
 use mathlib.Core.Bool.{Bool, true, false}
@@ -32,7 +32,7 @@ figure n qs rs ws = record { bytes = n; calls = qs; answers = rs; words = ws; st
 abbrev pub unchanged : ℕ → List Call → List (Reply wide) → List Word → Figure
 unchanged n qs rs ws = record { bytes = n; calls = qs; answers = rs; words = ws; still = true }
 
--- document 01's list
+-- document 01's list, and then the requests' figures
 unfoldable pub table : List Figure
 table =
     -- N 343: 1. N 344: a free block of 32 at 312; allocate 1: 6
@@ -68,6 +68,9 @@ table =
     ∷ figure 10000 (allocating 600 ∷ resizing 320 568 ∷ []) (says 0 0 ∷ says 0 320 ∷ says 0 320 ∷ []) (word 24 896 ∷ word 896 9104 ∷ [])
     -- H, allocate 600, resize 320 to 700: stays at 320, rest at 1,032, size 8,968
     ∷ figure 10000 (allocating 600 ∷ resizing 320 700 ∷ []) (says 0 0 ∷ says 0 320 ∷ says 0 320 ∷ []) (word 24 1032 ∷ word 1032 8968 ∷ [])
+    -- (i) N 1,000, allocate 300, resize 320 to 20: there is no room for a page, so nothing changes; to 900: 6
+    ∷ unchanged 1000 (allocating 300 ∷ resizing 320 20 ∷ []) (says 0 0 ∷ says 0 320 ∷ says 0 320 ∷ []) (word 312 322 ∷ word 24 632 ∷ word 632 368 ∷ [])
+    ∷ unchanged 1000 (allocating 300 ∷ resizing 320 900 ∷ []) (says 0 0 ∷ says 0 320 ∷ says 6 0 ∷ []) (word 312 322 ∷ word 24 632 ∷ word 632 368 ∷ [])
     ∷ []
 
 -- outcomes that the calls' contracts allow, one after the other, from bytes b on; the bytes then, and before the last; and what was answered

@@ -1,23 +1,27 @@
 -- Resize: what each way through the call shows.
-use Prim.Native.Nat.{ℕ, _+_, _-_, _*_, _≤_, _<_, min}
+use Prim.Native.Nat.{ℕ, _+_, _-_, _*_, _%_, _≤_, _<_, min}
 use mathlib.Core.Path.{_≡_, refl, sym, ap, subst, _∙_}
-use mathlib.Core.Bool.{Bool, true, false}
+use mathlib.Core.Bool.{Bool, true, false, cond}
 use mathlib.Core.List.{List}
 use mathlib.Core.Option.{Option, none, some}
 use native.Mathlib.Omega.{arith}
 use lib.ListN.{length}
+use lib.Dec.{leb}
 use Rattle.words.specs.Copy.{copied}
 use Rattle.words.specs.Word.{Bytes}
 use Rattle.model.specs.declared.Address.{Address}
 use Rattle.model.specs.declared.Position.{Position}
-use Rattle.model.specs.Shape.{shape, endOf, classOf, offsetOf, start, leastVariable, largestItem}
+use Rattle.model.specs.Shape.{shape, endOf, classOf, offsetOf, start, leastVariable, largestItem, needOf}
 use Rattle.model.specs.Layout.{Layout}
 use Rattle.model.specs.Sound.{Here}
 use Rattle.model.specs.Rules.{Spot, Made, Found, block, thing, nothing, find, allocate, capacity, stays, freed}
-use Rattle.model.specs.Refusals.{notLive, noRoom}
-use Rattle.model.specs.Calls.{Outcome, refused, granted, found, drawn, without, moved, resized, made}
+use Rattle.model.specs.Refusals.{noRoom}
+use Rattle.model.specs.Calls.{Outcome, refused, granted, orNext, drawn, made, without, stayed, movedBytes, moved, kept, resized}
 use Rattle.model.proofs.Good.{shape-good}
+use Rattle.model.proofs.Sizes.{need-fits}
+use Rattle.model.proofs.rules.ResizeWays.{resized-nowhere, resized-there}
 use Rattle.model.proofs.walks.Finding.{item-found}
+use Rattle.model.proofs.lives.LiveFound.{there-is}
 use Rattle.model.proofs.lives.Moving.{taken-large, item-again}
 use Rattle.model.proofs.blocks.Resizing.{item-stays, item-moves, small-moves}
 use Rattle.find.specs.declared.VariableBlock.{VariableBlock}
@@ -34,7 +38,7 @@ use Rattle.items.specs.Items.{ItemLive, GaveItem}
 use Rattle.releasing.specs.Release.{BlockLive}
 use Rattle.engine.specs.Free.{freedBytes, GivesBack}
 use Rattle.resizing.specs.Resize.{Stays, Reshaped}
-use Rattle.resizing.specs.Move.{Holding, Carried, ItemLiveAt, BlockLiveAt, outcomeOf, Moves, MovesOrStays}
+use Rattle.resizing.specs.Move.{Holding, Carried, ItemLiveAt, BlockLiveAt, outcomeOf, keptAs, MovesOrKeeps, ByRule}
 use Rattle.resizing.proofs.ReshapeLaws.{drawn-same}
 use Rattle.resizing.proofs.MoveLaws.{taken-none, taken-some, old-live}
 
@@ -49,15 +53,19 @@ true-not-false e = let z : _≡_ {A = ℕ} 0 1 = cc in omega arith
 
 -- a move that found no room, and one that did
 module _ {w : ℕ} {b : List ℕ} {a k n : ℕ} {t : Taken} {c : List ℕ} (g : Carried w b a k n t c) where
-  pub moved-nowhere : t ≡ NoRoom → Moves w b a n to.NoRoom c
-  moved-nowhere e =
+  pub moved-nowhere : Holding w b a k → t ≡ NoRoom → (r : Resized) → r ≡ keptAs (record { 0 = a }) k n → MovesOrKeeps w b a n r c
+  moved-nowhere q e r i =
       record {
         is = λ L h.
             let v = g .is L h in
             let o : allocate (shape w) n L ≡ none = taken-none (allocate (shape w) n L) (sym e ∙ v .answer) in
             let ec : c ≡ b = rw o at (v .bytes) in
-            rw o (ap (λ (y : List ℕ). refused y noRoom) ec);
+            rw (o, i, ec, sym (q .large L h)) (go (leb n k));
       }
+    where
+      go : (y : Bool) → outcomeOf (cond y (to.To (record { 0 = a })) to.NoRoom) b ≡ cond y (granted a b) (refused b noRoom)
+      go true = refl
+      go false = refl
 
   module _ (q : Holding w b a k) (s : Asked w n) (x : Address) (e : t ≡ At x) where
     pub chosen : (L : Layout) → Here (shape w) b L → (m : Made) × (allocate (shape w) n L ≡ some m) × (x .0 ≡ m .at)
@@ -70,19 +78,18 @@ module _ {w : ℕ} {b : List ℕ} {a k n : ℕ} {t : Taken} {c : List ℕ} (g : 
     ready-after l = record { width = q .ready .width; sound = record { layout = chosen (q .ready .sound .layout) (q .ready .sound .here) .0 .layout; here = carried-in (q .ready .sound .layout) (q .ready .sound .here) }; short = rw l (q .ready .short) }
 
     -- the old place given back in the copied heap is the rule's last step
-    pub moved-to : (d : List ℕ) → ((L : Layout) (h : Here (shape w) b L) → d ≡ drawn (shape w) (without (shape w) a (chosen L h .0 .layout)) c) → Moves w b a n (to.To x) d
+    pub moved-to : (d : List ℕ) → ((L : Layout) (h : Here (shape w) b L) → d ≡ drawn (shape w) (without (shape w) a (chosen L h .0 .layout)) c) → MovesOrKeeps w b a n (to.To x) d
     moved-to d f =
         record {
           is = λ L h.
               let m = chosen L h in
               let ec : c ≡ copied a (m .0 .at) (min k n) (drawn (shape w) (m .0 .layout) b) = rw (m .1) at (g .is L h .bytes) in
               let ek : c ≡ copied a (m .0 .at) (min (capacity (shape w) (find (shape w) a L)) n) (drawn (shape w) (m .0 .layout) b) = ec ∙ ap (λ (y : ℕ). copied a (m .0 .at) (min y n) (drawn (shape w) (m .0 .layout) b)) (q .large L h) in
-              let all : d ≡ drawn (shape w) (without (shape w) a (m .0 .layout)) (copied a (m .0 .at) (min (capacity (shape w) (find (shape w) a L)) n) (drawn (shape w) (m .0 .layout) b)) = f L h ∙ ap (λ (y : List ℕ). drawn (shape w) (without (shape w) a (m .0 .layout)) y) ek in
-              ap (λ (y : ℕ). granted y d) (m .2) ∙ ap (λ (y : List ℕ). granted (m .0 .at) y) all
-              ∙ ap (λ (o : Option Made). made (shape w) b o (λ (z : Made). drawn (shape w) (without (shape w) a (z .layout)) (copied a (z .at) (min (capacity (shape w) (find (shape w) a L)) n) (drawn (shape w) (z .layout) b)))) (sym (m .1));
+              let all : d ≡ movedBytes (shape w) b a n L (m .0) = f L h ∙ ap (λ (y : List ℕ). drawn (shape w) (without (shape w) a (m .0 .layout)) y) ek in
+              ap (λ (y : ℕ). granted y d) (m .2) ∙ ap (λ (y : List ℕ). granted (m .0 .at) y) all ∙ ap (λ (o : Option Made). orNext (made (shape w) b o (movedBytes (shape w) b a n L)) (kept (shape w) b a n L)) (sym (m .1));
         }
 
-    pub freed-to : (r : Bool) (d : List ℕ) → Bytes c → GivesBack w c a r d → Moves w b a n (to.To x) d
+    pub freed-to : (r : Bool) (d : List ℕ) → Bytes c → GivesBack w c a r d → MovesOrKeeps w b a n (to.To x) d
     unfolding freed
     freed-to r d bytes f = moved-to d (λ L h. f .bytes (chosen L h .0 .layout) (carried-in L h) ∙ go (chosen L h .0 .layout) (carried-in L h) (find (shape w) a (chosen L h .0 .layout)))
       where
@@ -91,21 +98,16 @@ module _ {w : ℕ} {b : List ℕ} {a k n : ℕ} {t : Taken} {c : List ℕ} (g : 
         go M i (block u) = refl
         go M i (thing o d) = refl
 
--- in place or by a move, of something that is live
+-- in place, and otherwise
 module _ (w : ℕ) (b : List ℕ) (a n : ℕ) (L : Layout) (live : find (shape w) a L ≡ nothing → ⊥) where
-  found-there : (f : Found) → (f ≡ nothing → ⊥) → (x y : Outcome) → found (shape w) f x y ≡ y
-  found-there nothing l x y = absurd (l refl)
-  found-there (block t) l x y = refl
-  found-there (thing o c) l x y = refl
+  by-rule : (o : Option Layout) → stays (shape w) n (find (shape w) a L) L ≡ o → orNext (stayed (shape w) b a o) (orNext (moved (shape w) b a n L) (kept (shape w) b a n L)) ≡ resized (shape w) b a n L
+  by-rule o s = rw (sym s) (sym (resized-there (shape w) b a n L (there-is (find (shape w) a L) live)))
 
-  abbrev rule : Option Layout → Outcome
-  rule o = found (shape w) (find (shape w) a L) (refused b notLive) (resized (shape w) b a (moved (shape w) b a n L) o)
+  goes : (r : Outcome) → stays (shape w) n (find (shape w) a L) L ≡ none → r ≡ orNext (moved (shape w) b a n L) (kept (shape w) b a n L) → r ≡ resized (shape w) b a n L
+  goes r s e = e ∙ by-rule none s
 
-  pub goes : (r : Outcome) → stays (shape w) n (find (shape w) a L) L ≡ none → r ≡ moved (shape w) b a n L → r ≡ rule (stays (shape w) n (find (shape w) a L) L)
-  goes r s e = e ∙ sym (found-there (find (shape w) a L) live (refused b notLive) (moved (shape w) b a n L)) ∙ ap rule (sym s)
-
-  pub remains : (c : List ℕ) (M : Layout) → stays (shape w) n (find (shape w) a L) L ≡ some M → c ≡ drawn (shape w) M b → granted a c ≡ rule (stays (shape w) n (find (shape w) a L) L)
-  remains c M s e = ap (λ (y : List ℕ). granted a y) e ∙ sym (found-there (find (shape w) a L) live (refused b notLive) (granted a (drawn (shape w) M b))) ∙ ap rule (sym s)
+  remains : (c : List ℕ) (M : Layout) → stays (shape w) n (find (shape w) a L) L ≡ some M → c ≡ drawn (shape w) M b → granted a c ≡ resized (shape w) b a n L
+  remains c M s e = ap (λ (y : List ℕ). granted a y) e ∙ by-rule (some M) s
 
 -- an item
 module _ {w : ℕ} {b : List ℕ} {a q c : ℕ} (i : ItemLiveAt w b a q c) where
@@ -121,7 +123,7 @@ module _ {w : ℕ} {b : List ℕ} {a q c : ℕ} (i : ItemLiveAt w b a q c) where
   pub item-holds : Holding w b a (8 * c + 8)
   item-holds = record { ready = i .ready; live = is-live; large = λ L h. ap (capacity (shape w)) (sym (i .is L h)) }
 
-  pub same-class : {n : ℕ} (k : ℕ) → k ≡ classOf n → k ≡ c → Bytes b → MovesOrStays w b a n (to.To (record { 0 = a })) b
+  pub same-class : {n : ℕ} (k : ℕ) → k ≡ classOf n → k ≡ c → Bytes b → ByRule w b a n (to.To (record { 0 = a })) b
   same-class {n} k e f bytes =
       record {
         is = λ L h.
@@ -129,7 +131,7 @@ module _ {w : ℕ} {b : List ℕ} {a q c : ℕ} (i : ItemLiveAt w b a q c) where
             remains w b a n L (is-live L h) b L s (drawn-same b L h bytes);
       }
 
-  pub item-goes : {n : ℕ} (k : ℕ) → k ≡ classOf n → (k ≡ c → ⊥) → (r : Resized) (d : List ℕ) → Moves w b a n r d → MovesOrStays w b a n r d
+  pub item-goes : {n : ℕ} (k : ℕ) → k ≡ classOf n → (k ≡ c → ⊥) → (r : Resized) (d : List ℕ) → MovesOrKeeps w b a n r d → ByRule w b a n r d
   item-goes {n} k e f r d g =
       record {
         is = λ L h.
@@ -152,7 +154,7 @@ module _ {w : ℕ} {b : List ℕ} {a q c : ℕ} (i : ItemLiveAt w b a q c) where
         let h = i .ready .sound .here in
         record { width = i .ready .width; layout = chosen g item-holds s x e L h .0 .layout; here = carried-in g item-holds s x e L h; short = rw l (i .ready .short); low = i .low; address = a; found = again L h }
 
-    pub item-gone : (k : ℕ) → k ≡ classOf n → (k ≡ c → ⊥) → (d′ : List ℕ) → GaveItem w d q c d′ → MovesOrStays w b a n (to.To x) d′
+    pub item-gone : (k : ℕ) → k ≡ classOf n → (k ≡ c → ⊥) → (d′ : List ℕ) → GaveItem w d q c d′ → ByRule w b a n (to.To x) d′
     item-gone k ek f d′ v =
         item-goes k ek f (to.To x) d′
         (moved-to g item-holds s x e d′ (λ L h.
@@ -164,11 +166,11 @@ module _ {w : ℕ} {b : List ℕ} {a : ℕ} {x : VariableBlock} (i : BlockLiveAt
   block-is-live : (L : Layout) → Here (shape w) b L → find (shape w) a L ≡ nothing → ⊥
   block-is-live L h e = not-nothing-block (i .is L h .0) (sym (i .is L h .1 .found) ∙ e)
 
-  pub block-large : leastVariable (shape w) ≤ x .size
+  pub block-large : (leastVariable (shape w) ≤ x .size) × (x .size % 8 ≡ 0)
   block-large =
       let L = i .ready .sound .layout in
       let h = i .ready .sound .here in
-      omega (arith, taken-large (shape w) (shape-good (i .ready .width)) (endOf (length b)) L (h .valid) a (i .is L h .0) (i .is L h .1 .found), i .is L h .1 .size)
+      rw (sym (i .is L h .1 .size)) (taken-large (shape w) (shape-good (i .ready .width)) (endOf (length b)) L (h .valid) a (i .is L h .0) (i .is L h .1 .found))
 
   pub block-holds : Holding w b a (x .size - 2 * w)
   block-holds =
@@ -178,13 +180,17 @@ module _ {w : ℕ} {b : List ℕ} {a : ℕ} {x : VariableBlock} (i : BlockLiveAt
         large = λ L h. let v = i .is L h in ap (λ (y : ℕ). y - 2 * w) (sym (v .1 .size)) ∙ ap (capacity (shape w)) (sym (v .1 .found));
       }
 
+  -- a block that holds n bytes is one that has what a block for n bytes takes
+  pub as-block : (y : Address) (n : ℕ) → keptAs y (x .size) (needOf (shape w) n) ≡ keptAs y (x .size - 2 * w) n
+  as-block y n = ap (λ (z : Bool). cond z (to.To y) to.NoRoom) (need-fits (i .ready .width) n (x .size) (block-large .0) (block-large .1))
+
   pub block-there : BlockLive w b x
   block-there =
       let L = i .ready .sound .layout in
       let h = i .ready .sound .here in
       record { width = i .ready .width; layout = L; here = h; short = i .ready .short; address = a; spot = i .is L h .0; found = i .is L h .1 }
 
-  pub small-goes : {n : ℕ} → n ≤ largestItem (shape w) → (r : Resized) (d : List ℕ) → Moves w b a n r d → MovesOrStays w b a n r d
+  pub small-goes : {n : ℕ} → n ≤ largestItem (shape w) → (r : Resized) (d : List ℕ) → MovesOrKeeps w b a n r d → ByRule w b a n r d
   small-goes {n} l r d g =
       record {
         is = λ L h.
@@ -196,10 +202,10 @@ module _ {w : ℕ} {b : List ℕ} {a : ℕ} {x : VariableBlock} (i : BlockLiveAt
     told : (L : Layout) (h : Here (shape w) b L) → Stays w b L (stays (shape w) n (find (shape w) a L) L) r c
     told L h = let v = i .is L h in rw (v .1 .found) (g .is L a (v .0) h (v .1))
 
-    pub reshaped-there : r ≡ true → MovesOrStays w b a n (to.To (record { 0 = a })) c
+    pub reshaped-there : r ≡ true → ByRule w b a n (to.To (record { 0 = a })) c
     reshaped-there e = record { is = λ L h. go L h (stays (shape w) n (find (shape w) a L) L) refl (told L h) }
       where
-        go : (L : Layout) (h : Here (shape w) b L) (o : Option Layout) → stays (shape w) n (find (shape w) a L) L ≡ o → Stays w b L o r c → granted a c ≡ rule w b a n L (block-is-live L h) (stays (shape w) n (find (shape w) a L) L)
+        go : (L : Layout) (h : Here (shape w) b L) (o : Option Layout) → stays (shape w) n (find (shape w) a L) L ≡ o → Stays w b L o r c → granted a c ≡ resized (shape w) b a n L
         go L h none s v = absurd (true-not-false (sym e ∙ v .answer))
         go L h (some M) s v = remains w b a n L (block-is-live L h) c M s (v .bytes)
 
@@ -213,9 +219,9 @@ module _ {w : ℕ} {b : List ℕ} {a : ℕ} {x : VariableBlock} (i : BlockLiveAt
     pub still-there : r ≡ false → BlockLiveAt w c a x
     still-there e = subst (λ (y : List ℕ). BlockLiveAt w y a x) (sym (as-before e)) i
 
-    pub large-goes : r ≡ false → (y : Resized) (d : List ℕ) → Moves w c a n y d → MovesOrStays w b a n y d
+    pub large-goes : r ≡ false → (y : Resized) (d : List ℕ) → MovesOrKeeps w c a n y d → ByRule w b a n y d
     large-goes e y d v =
-        let w′ : Moves w b a n y d = subst (λ (z : List ℕ). Moves w z a n y d) (as-before e) v in
+        let w′ : MovesOrKeeps w b a n y d = subst (λ (z : List ℕ). MovesOrKeeps w z a n y d) (as-before e) v in
         record { is = λ L h. goes w b a n L (block-is-live L h) (outcomeOf y d) (none-of L (stays (shape w) n (find (shape w) a L) L) e (told L h) .0) (w′ .is L h) }
 
 -- what is found
@@ -223,9 +229,9 @@ module _ {w : ℕ} (b : List ℕ) (a : ℕ) (k : Ready w b) (x : Live) (f : (L :
   found-as : (y : Live) → x ≡ y → (L : Layout) → Here (shape w) b L → Finds w L a y
   found-as y e L h = subst (λ (z : Live). Finds w L a z) e (f L h)
 
-  pub nothing-live : {n : ℕ} → x ≡ Nothing → MovesOrStays w b a n to.NotLive b
+  pub nothing-live : {n : ℕ} → x ≡ Nothing → ByRule w b a n to.NotLive b
   unfolding Finds
-  nothing-live e = record { is = λ L h. rw (found-as Nothing e L h) refl }
+  nothing-live {n} e = record { is = λ L h. sym (resized-nowhere (shape w) b a n L (found-as Nothing e L h)) }
 
   pub item-at : (q : Position) (c : ℕ) → x ≡ Item q c → ItemLiveAt w b a (q .0) c
   unfolding Finds

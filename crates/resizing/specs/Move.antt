@@ -1,15 +1,18 @@
 -- What moving a record to another place asks and promises.
 use Prim.Native.Nat.{ℕ, _≤_, min}
 use mathlib.Core.Path.{_≡_}
+use mathlib.Core.Bool.{cond}
 use mathlib.Core.List.{List}
 use mathlib.Core.Option.{Option, none, some}
+use lib.Dec.{leb}
 use Rattle.words.specs.Copy.{copied}
+use Rattle.model.specs.declared.Address.{Address}
 use Rattle.model.specs.Shape.{shape, offsetOf, index}
 use Rattle.model.specs.Layout.{Layout}
 use Rattle.model.specs.Sound.{Here}
-use Rattle.model.specs.Rules.{Spot, Made, thing, nothing, find, allocate, stays, capacity}
+use Rattle.model.specs.Rules.{Spot, Made, thing, nothing, find, allocate, capacity}
 use Rattle.model.specs.Refusals.{notLive, noRoom}
-use Rattle.model.specs.Calls.{Outcome, refused, granted, found, drawn, moved, resized}
+use Rattle.model.specs.Calls.{Outcome, refused, granted, orNext, drawn, moved, kept, resized}
 use Rattle.find.specs.declared.VariableBlock.{VariableBlock}
 use Rattle.engine.specs.declared.allocate.Taken.{Taken}
 use Rattle.resizing.specs.declared.resize.Resized.{Resized}
@@ -53,10 +56,14 @@ outcomeOf (To a) c = granted (a .0) c
 outcomeOf NotLive c = refused c notLive
 outcomeOf NoRoom c = refused c noRoom
 
--- the record moved
-pub record Moves (w : ℕ) (b : List ℕ) (a n : ℕ) (r : Resized) (c : List ℕ) : Type 0 where
-  pub is : (L : Layout) → Here (shape w) b L → outcomeOf r c ≡ moved (shape w) b a n L
+-- where there is no room elsewhere: the record as it is, if what it has is no less than what is wanted
+abbrev pub keptAs : Address → ℕ → ℕ → Resized
+keptAs a has wanted = cond (leb wanted has) (To a) NoRoom
 
--- the record resized
-pub record MovesOrStays (w : ℕ) (b : List ℕ) (a n : ℕ) (r : Resized) (c : List ℕ) : Type 0 where
-  pub is : (L : Layout) → Here (shape w) b L → outcomeOf r c ≡ found (shape w) (find (shape w) a L) (refused b notLive) (resized (shape w) b a (moved (shape w) b a n L) (stays (shape w) n (find (shape w) a L) L))
+-- the record moved, or else kept
+pub record MovesOrKeeps (w : ℕ) (b : List ℕ) (a n : ℕ) (r : Resized) (c : List ℕ) : Type 0 where
+  pub is : (L : Layout) → Here (shape w) b L → outcomeOf r c ≡ orNext (moved (shape w) b a n L) (kept (shape w) b a n L)
+
+-- the record resized by the rule
+pub record ByRule (w : ℕ) (b : List ℕ) (a n : ℕ) (r : Resized) (c : List ℕ) : Type 0 where
+  pub is : (L : Layout) → Here (shape w) b L → outcomeOf r c ≡ resized (shape w) b a n L

@@ -15,7 +15,7 @@ isThere nothing = 0
 isThere (block t) = 1
 isThere (thing o c) = 1
 
-there-is : (f : Found) → (f ≡ nothing → ⊥) → isThere f ≡ 1
+pub there-is : (f : Found) → (f ≡ nothing → ⊥) → isThere f ≡ 1
 there-is nothing n = absurd (n refl)
 there-is (block t) n = refl
 there-is (thing o c) n = refl

@@ -14,7 +14,7 @@ use Rattle.model.specs.Sound.{idleSlots}
 use Rattle.model.specs.Rules.{fit, before, inFront, cut, slotTo, useTo, itemTo, fromList, fromPage, anItem, aBlock, allocate, inSlots, findFrom, freed, shrunk, grown, reshaped, stays, fresh}
 use Rattle.model.specs.Reading.{total, greatest, heldIn, ofBlock, counted}
 use Rattle.model.specs.Promises.{Call, allocating, freeing, resizing}
-use Rattle.model.proofs.rules.OnLayouts.{doing}
+use Rattle.model.proofs.rules.OnLayouts.{resizedOn, doing}
 
 -- the value of a picture's word at a position; 9,999,999 where it names none
 wordIn : ℕ → List Word → ℕ
@@ -99,7 +99,7 @@ expected =
     ∷ []
 
 figures : computed ≡ expected
-unfolding computed expected wordIn word gives says after freshOf H A B C D R P doing headOf nextOf useSize sizeOf ends firstFree header slotWords useWords own blockWords headWords fixedLow fixedHigh words idleSlots fit before inFront cut slotTo useTo itemTo fromList fromPage anItem aBlock allocate inSlots findFrom freed shrunk grown reshaped stays total greatest heldIn ofBlock counted
+unfolding computed expected wordIn word gives says after freshOf H A B C D R P resizedOn doing headOf nextOf useSize sizeOf ends firstFree header slotWords useWords own blockWords headWords fixedLow fixedHigh words idleSlots fit before inFront cut slotTo useTo itemTo fromList fromPage anItem aBlock allocate inSlots findFrom freed shrunk grown reshaped stays total greatest heldIn ofBlock counted
 figures = refl
 
 -- a page's items take more than 4,096 and at most 4,360 bytes

@@ -2,10 +2,10 @@
 use Prim.Native.Nat.{ℕ}
 use mathlib.Core.Bool.{cond, _&&_}
 use mathlib.Core.Option.{Option, none, some}
-use lib.Dec.{leb}
+use lib.Dec.{eqb, leb}
 use Rattle.model.specs.Shape.{Shape}
 use Rattle.model.specs.Layout.{Layout}
-use Rattle.model.specs.Rules.{Made, allocate, find, stays}
+use Rattle.model.specs.Rules.{Made, allocate, find, capacity, stays}
 use Rattle.model.specs.Refusals.{badSize, notLive, noRoom, alreadyOpened}
 use Rattle.model.specs.Calls.{found, without}
 use Rattle.model.specs.Promises.{Call, initialising, checking, allocating, freeing, resizing}
@@ -15,11 +15,14 @@ pub record Done : Type 0 where
   pub address : ℕ
   pub layout : Layout
 
-abbrev refuse : ℕ → Layout → Done
+abbrev pub refuse : ℕ → Layout → Done
 refuse k L = record { refusal = k; address = 0; layout = L }
 
-abbrev grant : ℕ → Layout → Done
+abbrev pub grant : ℕ → Layout → Done
 grant a L = record { refusal = 0; address = a; layout = L }
+
+abbrev orNext : Done → Done → Done
+orNext r next = cond (eqb (r .refusal) noRoom) next r
 
 module _ (S : Shape) where
   abbrev sized : ℕ → Layout → Done → Done
@@ -29,15 +32,22 @@ module _ (S : Shape) where
   made L none then = refuse noRoom L
   made L (some m) then = grant (m .at) (then m)
 
-  abbrev resized : ℕ → Done → Option Layout → Done
-  resized a move none = move
-  resized a move (some L) = grant a L
+  abbrev stayed : ℕ → Layout → Option Layout → Done
+  stayed a L none = refuse noRoom L
+  stayed a L (some M) = grant a M
+
+  abbrev kept : ℕ → ℕ → Layout → Done
+  kept a n L = cond (leb n (capacity S (find S a L))) (grant a L) (refuse noRoom L)
+
+  abbrev pub firstWay : ℕ → ℕ → Layout → Done
+  firstWay a n L = orNext (stayed a L (stays S n (find S a L) L)) (orNext (made L (allocate S n L) (λ m. without S a (m .layout))) (kept a n L))
+
+  unfoldable pub resizedOn : ℕ → ℕ → Layout → Done
+  resizedOn a n L = found S (find S a L) (refuse notLive L) (firstWay a n L)
 
   unfoldable pub doing : Call → Layout → Done
   doing initialising L = refuse alreadyOpened L
   doing checking L = grant 0 L
   doing (allocating n) L = sized n L (made L (allocate S n L) (λ m. m .layout))
   doing (freeing a) L = found S (find S a L) (refuse notLive L) (grant 0 (without S a L))
-  doing (resizing a n) L =
-      let move = made L (allocate S n L) (λ m. without S a (m .layout)) in
-      sized n L (found S (find S a L) (refuse notLive L) (resized a move (stays S n (find S a L) L)))
+  doing (resizing a n) L = sized n L (resizedOn a n L)
