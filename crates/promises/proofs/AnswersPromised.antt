@@ -1,5 +1,5 @@
 -- Demands 1 and 2 of what the calls of crate `heap` answer: those of outcomes, through what an answer means.
-use Prim.Native.Nat.{ℕ, _≤_}
+use Prim.Native.Nat.{ℕ}
 use mathlib.Core.Path.{_≡_, refl, sym, ap, _∙_}
 use mathlib.Core.Logic.{_↔_}
 use mathlib.Core.List.{List, []}
@@ -9,13 +9,12 @@ use Rattle.model.specs.Shape.{wide, endOf}
 use Rattle.model.specs.Layout.{Layout}
 use Rattle.model.specs.Sound.{Here, Sound}
 use Rattle.model.specs.Rules.{Found, block, thing, nothing, find}
-use Rattle.model.specs.Live.{_∈_, Payload, live}
 use Rattle.model.specs.Reading.{counted, table, total, row, rowsFrom}
 use Rattle.model.specs.Reading as reading
 use Rattle.model.specs.Walking.{column}
-use Rattle.model.specs.Refusals.{notLive, noRoom}
-use Rattle.model.specs.Calls.{Outcome, Told, Lent, refused, granted, drawn, without, found, Counts}
-use Rattle.model.specs.Promises.{checking, freeing, Comes}
+use Rattle.model.specs.Refusals.{notLive}
+use Rattle.model.specs.Calls.{Outcome, Told, refused, granted, drawn, without, found, Counts}
+use Rattle.model.specs.Promises.{Comes}
 use Rattle.model.specs.declared.Address.{Address}
 use Rattle.model.proofs.Sizes.{eight}
 use Rattle.model.proofs.lives.LiveFound.{isThere}
@@ -27,7 +26,7 @@ use Rattle.heap.specs.declared.Refusal.the-variants as why
 use Rattle.heap.specs.declared.counting.Counted.{Counted}
 use Rattle.heap.specs.Answers.{outcome, refusalNumber}
 use Rattle.heap.specs.Counting.{toldCounted, TableTold}
-use Rattle.promises.specs.Answered.{MayAnswer, AnswersPromised}
+use Rattle.promises.specs.Answered.{AnswersPromised}
 use Rattle.promises.proofs.Stable.{numbers}
 use Rattle.promises.proofs.Cases.{checked-cases}
 use Rattle.promises.proofs.Promised.{wide-promised}

@@ -20,7 +20,7 @@ use Rattle.model.specs.Live.{_∈_}
 use Rattle.model.specs.Refusals.{badLength}
 use Rattle.model.specs.Calls.{Outcome, refused, Lent, Opened, Initialises}
 use Rattle.model.specs.Promises.{Call, initialising, checking, allocating, freeing, resizing, Comes, Reply}
-use Rattle.promises.specs.Figures.{says, word, Figure, figure, unchanged, table, Outcomes, heapThen, heapBefore, answered, OnBytes}
+use Rattle.promises.specs.Figures.{says, word, Figure, figure, table, Outcomes, heapThen, heapBefore, answered, OnBytes}
 use Rattle.model.proofs.Sizes.{eight}
 use Rattle.model.proofs.rules.OnLayouts.{resizedOn, doing}
 use Rattle.promises.proofs.Opened.{opened-fresh}

@@ -1,7 +1,6 @@
 -- What is found at an address is what is live there, and a look-up gives its content.
 use Prim.Native.Nat.{ℕ}
 use mathlib.Core.Path.{_≡_, refl, sym, ap, subst}
-use mathlib.Core.List.{List}
 use native.Mathlib.Omega.{arith}
 use lib.ListN.{take, drop}
 use Rattle.words.specs.Width.{Width}

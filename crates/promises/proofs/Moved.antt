@@ -14,10 +14,10 @@ use Rattle.words.proofs.CopyLaws.{part-agree, length-copied, copied-in, copied-
 use Rattle.model.specs.Shape.{shape, endOf}
 use Rattle.model.specs.Layout.{Layout}
 use Rattle.model.specs.Sound.{Here}
-use Rattle.model.specs.Rules.{Made, Found, nothing, allocate, find, capacity}
+use Rattle.model.specs.Rules.{Made, allocate, find, capacity}
 use Rattle.model.specs.Live.{_∈_, Payload, content, live}
-use Rattle.model.specs.Calls.{Outcome, granted, Lent, drawn, without}
-use Rattle.model.specs.Promises.{ResizeKept, Kept, OnlyNew}
+use Rattle.model.specs.Calls.{granted, Lent, drawn, without}
+use Rattle.model.specs.Promises.{ResizeKept, Kept}
 use Rattle.model.proofs.Good.{shape-good}
 use Rattle.model.proofs.lives.Payloads.{in-area, content-kept}
 use Rattle.model.proofs.rules.Allocation.{Granted, allocate-grants}

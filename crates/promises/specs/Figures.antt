@@ -9,7 +9,7 @@ use Rattle.model.specs.Picture.{Word, Shows}
 use Rattle.model.specs.Shape.{wide}
 use Rattle.model.specs.Refusals.{noRoom}
 use Rattle.model.specs.Calls.{Outcome, Opened, Initialises, Allocates}
-use Rattle.model.specs.Promises.{Call, initialising, checking, allocating, freeing, resizing, Comes, Reply}
+use Rattle.model.specs.Promises.{Call, initialising, allocating, freeing, resizing, Comes, Reply}
 
 -- an answer: a refusal and an address; a word: a position and its value
 abbrev pub says : ℕ → ℕ → Reply wide

@@ -1,5 +1,4 @@
 use Rattle.resizing.proofs.ResizeLaws.{moved-nowhere, few, item-holds, same-class, item-goes, item-still, item-gone}
-use native.Mathlib.Omega.{arith}
 use borrow.Author.Needs.{needs}
 use Rattle.resizing.proofs.resize.resize_item.Statement.{statement}
 use Rattle.resizing.proofs.resize.resize_item.Tie as tie
