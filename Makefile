@@ -72,7 +72,7 @@ install: lib
 	sed 's|@PREFIX@|$(abspath $(PREFIX))|; s|@VERSION@|$(VERSION)|' include/jagwibodu.pc.in > $(PREFIX)/lib/pkgconfig/jagwibodu.pc
 
 # The example host in C, built with what install gives; on a heap with room, and on one in which most is refused; and the ward's
-# remark, shortened on a full heap. The pkg-config file leads to both header and archive, and the example is C++ too.
+# remark, shortened on a full heap. The pkg-config file leads to header and archive, and both hosts are C++ too.
 INSTALLED = target/installed
 example:
 	$(MAKE) --no-print-directory install PREFIX=$(INSTALLED)
@@ -83,7 +83,7 @@ example:
 	CFLAGS='-I$(INSTALLED)/include' tools/chost examples/remark.c $(INSTALLED)/lib/libjagwibodu.a > target/remark.out
 	diff examples/remark.out target/remark.out && cat target/remark.out
 	if command -v pkg-config > /dev/null; then PKG_CONFIG_PATH=$(INSTALLED)/lib/pkgconfig pkg-config --cflags --libs jagwibodu | grep -q '^-I$(abspath $(INSTALLED))/include -L$(abspath $(INSTALLED))/lib -ljagwibodu *$$'; fi
-	if command -v c++ > /dev/null; then c++ -std=c++11 -Wall -Wextra -Werror -fsyntax-only -x c++ -I$(INSTALLED)/include examples/console.c; fi
+	if command -v c++ > /dev/null; then c++ -std=c++11 -Wall -Wextra -Werror -fsyntax-only -x c++ -I$(INSTALLED)/include examples/console.c examples/remark.c; fi
 
 # The figures that are run, long random runs and damaged heaps, and the stack: the library against the second program.
 compare: lib
