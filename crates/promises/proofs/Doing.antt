@@ -1,5 +1,6 @@
 -- What any call answers of a sound heap, and leaves, is what the rules say of its layout.
 use Prim.Native.Nat.{ℕ, _≤_}
+use mathlib.Core.Path.{_≡_}
 use mathlib.Core.List.{List}
 use native.Mathlib.Omega.{arith}
 use native.Mathlib.Decide.{decLe}
@@ -9,7 +10,7 @@ use Rattle.model.specs.Shape.{shape}
 use Rattle.model.specs.Layout.{Layout}
 use Rattle.model.specs.Sound.{Here}
 use Rattle.model.specs.Refusals.{alreadyOpened}
-use Rattle.model.specs.Calls.{Outcome, refused, granted, Lent, sized, resized}
+use Rattle.model.specs.Calls.{Outcome, refused, granted, Lent, sized, resized, Resizes}
 use Rattle.model.specs.Promises.{Call, initialising, checking, allocating, freeing, resizing, Comes}
 use Rattle.model.proofs.Good.{shape-good}
 use Rattle.model.proofs.lives.StayLives.{stays-stayed}
@@ -20,6 +21,10 @@ use Rattle.promises.proofs.Moved.{moved-does}
 
 module _ {w : ℕ} (wd : Width w) where
   module _ (b : List ℕ) (L : Layout) (l : Lent (shape w) b) (h : Here (shape w) b L) where
+    -- what a resize of a good size comes to
+    pub comes-to : (a n : ℕ) (r : Outcome) → 1 ≤ n → n ≤ (shape w .most) → Resizes (shape w) b a n r → r ≡ resized (shape w) b a n L
+    comes-to a n r one most c = rw (le-leb 1 n one, le-leb n (shape w .most) most) at (c .sound l L h)
+
     resized-does : {a n : ℕ} → 1 ≤ n → {o : Outcome} {d : Done} → Way (shape w) b a n L o d → Does wd b L o d
     resized-does one (nowhere e) = left wd b L l h _ _
     resized-does {a} {n} one (inPlace i M s) = drew wd b L l h a M (stays-stayed (shape w) (shape-good wd) n a one (h .valid) M s .valid)

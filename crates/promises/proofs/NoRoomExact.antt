@@ -14,7 +14,7 @@ use Rattle.model.specs.Sound.{Here}
 use Rattle.model.specs.Rules.{Made, allocate, find, capacity, stays}
 use Rattle.model.specs.Live.{_∈_, Payload, live}
 use Rattle.model.specs.Refusals.{noRoom}
-use Rattle.model.specs.Calls.{Outcome, granted, Lent, drawn, made, allocated, resized, Allocates, Resizes}
+use Rattle.model.specs.Calls.{Outcome, granted, drawn, made, allocated, Allocates, Resizes}
 use Rattle.model.specs.Promises.{NoRoom, NoRoomFor, NoRoomExactly, SmallerKept}
 use Rattle.model.proofs.Sizes.{per-page-bound}
 use Rattle.model.proofs.lives.Payloads.{in-area}
@@ -24,6 +24,7 @@ use Rattle.model.proofs.rules.OnLayouts.{Done}
 use Rattle.model.proofs.rules.ResizeWays.{Way, nowhere, inPlace, elsewhere, asItIs, noWay, way}
 use Rattle.model.proofs.rules.Room.{no-room}
 use Rattle.promises.proofs.FoundLive.{found-size}
+use Rattle.promises.proofs.Doing.{comes-to}
 
 module _ {w : ℕ} (wd : Width w) where
   module _ (b : List ℕ) where
@@ -53,14 +54,10 @@ module _ {w : ℕ} (wd : Width w) where
   room : (b : List ℕ) (n : ℕ) (L : Layout) → Here (shape w) b L → 1 ≤ n → (allocate (shape w) n L ≡ none) ↔ NoRoom (shape w) n L
   room b n L h one = no-room (shape w) (endOf (length b)) n L (h .valid) one (λ c. per-page-bound wd c .0)
 
-  -- what a resize of a good size comes to
-  comes-to : (b : List ℕ) (a n : ℕ) (r : Outcome) (L : Layout) → Lent (shape w) b → Here (shape w) b L → 1 ≤ n → n ≤ shape w .most → Resizes (shape w) b a n r → r ≡ resized (shape w) b a n L
-  comes-to b a n r L l h one most c = rw (le-leb 1 n one, le-leb n (shape w .most) most) at (c .sound l L h)
-
   pub smaller-kept : SmallerKept (shape w)
   smaller-kept b n r L l h x i one le c =
       let area = in-area (shape w) (endOf (length b)) L (h .valid) x i in
-      let e = comes-to b (x .address) n r L l h one (omega (arith, area .1, le, l .1)) c in
+      let e = comes-to wd b L l h (x .address) n r one (omega (arith, area .1, le, l .1)) c in
       let s = found-size wd (endOf (length b)) L (x .address) (h .valid) x i refl in
       let k = resized-smaller b (live-is-there (shape w) (shape-good wd) (h .valid) (x .address) x i refl) (omega (arith, le, s)) (way (shape w) b (x .address) n L) in
       (ap (λ (o : Outcome). o .refusal) e ∙ k .0, λ f g. e ∙ k .1 f (room b n L h one .1 g))
@@ -76,7 +73,7 @@ module _ {w : ℕ} (wd : Width w) where
 
       of-resize : (x : Payload) → x ∈ live (shape w) L → Resizes (shape w) b (x .address) n r → (r .refusal ≡ noRoom) ↔ NoRoomFor (shape w) x n L
       of-resize x i c =
-          let e = comes-to b (x .address) n r L l h one most c in
+          let e = comes-to wd b L l h (x .address) n r one most c in
           let k = resized-none b (live-is-there (shape w) (shape-good wd) (h .valid) (x .address) x i refl) (way (shape w) b (x .address) n L) in
           let s = found-size wd (endOf (length b)) L (x .address) (h .valid) x i refl in
           ((λ f. let y = k .0 (sym (ap (λ (o : Outcome). o .refusal) e) ∙ f) in (y .0, room b n L h one .0 (y .1), omega (arith, y .2, s))), (λ f. ap (λ (o : Outcome). o .refusal) e ∙ k .1 (f .0, room b n L h one .1 (f .1), omega (arith, f .2, s))))

@@ -14,7 +14,7 @@ use Rattle.model.specs.Layout.{Layout}
 use Rattle.model.specs.Sound.{Here}
 use Rattle.model.specs.Rules.{find, capacity}
 use Rattle.model.specs.Refusals.{badSize}
-use Rattle.model.specs.Calls.{Outcome, refused, granted, Lent, drawn, resized, Resizes}
+use Rattle.model.specs.Calls.{Outcome, refused, granted, Lent, drawn, Resizes}
 use Rattle.model.specs.Promises.{resizing, ResizeKept, Comes, ResizeKeeps}
 use Rattle.model.proofs.Good.{shape-good}
 use Rattle.model.proofs.lives.Payloads.{content-kept}
@@ -25,7 +25,7 @@ use Rattle.model.proofs.rules.ResizeWays.{Way, nowhere, inPlace, elsewhere, asI
 use Rattle.promises.proofs.FoundLive.{found-size}
 use Rattle.promises.proofs.Parts.{take-take}
 use Rattle.promises.proofs.Moved.{moved-kept}
-use Rattle.promises.proofs.Doing.{does}
+use Rattle.promises.proofs.Doing.{comes-to, does}
 
 module _ {w : ℕ} (wd : Width w) where
   -- in place
@@ -76,7 +76,7 @@ module _ {w : ℕ} (wd : Width w) where
         go (no i) j = absurd (not-refused (rw (lt-leb 1 n (omega arith)) at (c .sound l L h)))
         go (yes i) (no j) = absurd (not-refused (rw (le-leb 1 n i, lt-leb n (shape w .most) (omega arith)) at (c .sound l L h)))
         go (yes i) (yes j) =
-            let e : r ≡ resized (shape w) b a n L = rw (le-leb 1 n i, le-leb n (shape w .most) j) at (c .sound l L h) in
+            let e = comes-to wd b L l h a n r i j c in
             rw (le-leb 1 n i, le-leb n (shape w .most) j)
             (subst (λ (x : Outcome). ResizeKept (shape w) b a n L x (resizedOn (shape w) a n L .layout)) (sym e) (way-kept i (way (shape w) b a n L) (sym (ap (λ (x : Outcome). x .refusal) e) ∙ g)))
 
