@@ -17,9 +17,8 @@ use Rattle.model.specs.Refusals.{notLive}
 use Rattle.model.specs.Calls.{Outcome, refused, granted, Lent, drawn, sized, found, allocated, without}
 use Rattle.model.specs.Promises.{Call, initialising, checking, allocating, freeing, resizing, Comes, Plain}
 use Rattle.model.proofs.Good.{shape-good}
-use Rattle.model.proofs.pictures.Pictures as pictures
 use Rattle.model.proofs.pictures.Pictures.{length-draw, bytes-draw}
-use Rattle.model.proofs.pictures.Drawn.{drawn-here}
+use Rattle.model.proofs.pictures.Drawn.{drawn-here, drawn-same}
 use Rattle.model.proofs.lives.LiveFound.{isThere}
 use Rattle.model.proofs.lives.FreeLives.{freed-removes}
 use Rattle.model.proofs.rules.Allocation.{allocate-grants}
@@ -48,7 +47,7 @@ module _ {w : ℕ} (wd : Width w) where
 
     -- the heap's own layout drawn changes nothing
     pub redrawn : (M : Layout) → M ≡ L → Bytes b → drawn (shape w) M b ≡ b
-    redrawn M e k = ap (λ (N : Layout). drawn (shape w) N b) e ∙ sym (pictures.drawn w (words (shape w) (endOf (length b)) L) b b k refl (h .shown) (λ i l o. refl))
+    redrawn M e k = ap (λ (N : Layout). drawn (shape w) N b) e ∙ sym (drawn-same (shape w) b L h k)
 
     -- what is done where nothing is written, and where a valid layout is drawn
     pub left : (k a : ℕ) → Does b L (record { refusal = k; address = a; heap = b }) (record { refusal = k; address = a; layout = L })

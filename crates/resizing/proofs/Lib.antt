@@ -1,4 +1,3 @@
-mod ReshapeLaws
 mod MoveLaws
 mod MendLaws
 mod BlockMoving

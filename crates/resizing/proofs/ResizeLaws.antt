@@ -20,6 +20,7 @@ use Rattle.model.specs.Calls.{Outcome, refused, granted, orNext, drawn, made, w
 use Rattle.model.proofs.Good.{shape-good}
 use Rattle.model.proofs.Sizes.{need-fits}
 use Rattle.model.proofs.rules.ResizeWays.{resized-nowhere, resized-there}
+use Rattle.model.proofs.pictures.Drawn.{drawn-same}
 use Rattle.model.proofs.walks.Finding.{item-found}
 use Rattle.model.proofs.lives.LiveFound.{there-is}
 use Rattle.model.proofs.lives.Moving.{taken-large, item-again}
@@ -37,9 +38,8 @@ use Rattle.engine.specs.Allocate.{Asked}
 use Rattle.items.specs.Items.{ItemLive, GaveItem}
 use Rattle.releasing.specs.Release.{BlockLive}
 use Rattle.engine.specs.Free.{freedBytes, GivesBack}
-use Rattle.resizing.specs.Resize.{Stays, Reshaped}
+use Rattle.reshaping.specs.Reshape.{Stays, Reshaped}
 use Rattle.resizing.specs.Move.{Holding, Carried, ItemLiveAt, BlockLiveAt, outcomeOf, keptAs, MovesOrKeeps, ByRule}
-use Rattle.resizing.proofs.ReshapeLaws.{drawn-same}
 use Rattle.resizing.proofs.MoveLaws.{taken-none, taken-some, old-live}
 
 not-nothing-item : (o c : ℕ) → thing o c ≡ nothing → ⊥
@@ -94,7 +94,7 @@ module _ {w : ℕ} {b : List ℕ} {a k n : ℕ} {t : Taken} {c : List ℕ} (g : 
     freed-to r d bytes f = moved-to d (λ L h. f .bytes (chosen L h .0 .layout) (carried-in L h) ∙ go (chosen L h .0 .layout) (carried-in L h) (find (shape w) a (chosen L h .0 .layout)))
       where
         go : (M : Layout) → Here (shape w) c M → (y : Found) → freedBytes w c M y ≡ drawn (shape w) (freed (shape w) y M) c
-        go M i nothing = drawn-same c M i bytes
+        go M i nothing = drawn-same (shape w) c M i bytes
         go M i (block u) = refl
         go M i (thing o d) = refl
 
@@ -128,7 +128,7 @@ module _ {w : ℕ} {b : List ℕ} {a q c : ℕ} (i : ItemLiveAt w b a q c) where
       record {
         is = λ L h.
             let s : stays (shape w) n (find (shape w) a L) L ≡ some L = ap (λ (y : Found). stays (shape w) n y L) (i .is L h) ∙ item-stays (shape w) n (offsetOf (shape w) q) c L few (sym e ∙ f) in
-            remains w b a n L (is-live L h) b L s (drawn-same b L h bytes);
+            remains w b a n L (is-live L h) b L s (drawn-same (shape w) b L h bytes);
       }
 
   pub item-goes : {n : ℕ} (k : ℕ) → k ≡ classOf n → (k ≡ c → ⊥) → (r : Resized) (d : List ℕ) → MovesOrKeeps w b a n r d → ByRule w b a n r d

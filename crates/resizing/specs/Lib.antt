@@ -1,3 +1,2 @@
-pub mod Resize
 pub mod Move
 pub mod Mend

@@ -1,7 +1,6 @@
 // Resize, once the heap is known to be sound and the size to be good: in place, or else by a move, or else as it is.
 use crate::carry::carry;
 use crate::mend::mend;
-use crate::reshape::reshape;
 use engine::allocate::Taken;
 use find::Live;
 use find::VariableBlock;
@@ -16,6 +15,7 @@ use model::item_capacity;
 use model::largest_item;
 use model::need_of;
 use releasing::release;
+use reshaping::reshape;
 use words::word;
 ghost use mathlib.Core.Path.{_≡_};
 ghost use Rattle.engine.specs.Allocate.{Asked};

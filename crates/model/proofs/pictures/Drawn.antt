@@ -9,11 +9,11 @@ use native.Mathlib.Decide.{ℕ-discrete, decLe}
 use lib.ListN.{length, getD}
 use lib.Dec.{eqb}
 use borrow.Author.Tests.{eq-eqb, ne-eqb}
-use Rattle.words.specs.Word.{wordAt}
+use Rattle.words.specs.Word.{wordAt, Bytes}
 use Rattle.words.proofs.WordLaws.{word-agree}
 use Rattle.model.specs.Picture.{draw}
 use Rattle.model.proofs.Good.{Good}
-use Rattle.model.proofs.pictures.Pictures.{Rise, Fit, fit-append, rise-outside, draw-out, draw-shows, length-draw}
+use Rattle.model.proofs.pictures.Pictures.{Rise, Fit, fit-append, rise-outside, draw-out, draw-shows, drawn, length-draw}
 use Rattle.model.specs.Shape.{Shape, start, index, offsetOf, tags, itemSize, endOf}
 use Rattle.model.specs.Layout.{Slot, idle, held, Use, variable, page, Block, free, used, Layout, headOf, nextOf, useSize, sizeOf, ends, header, slotWords, useWords, own, blockWords, headWords, fixedLow, fixedHigh, words}
 use Rattle.model.proofs.blocks.Blocks.{le-ends, first-below}
@@ -147,3 +147,7 @@ module _ (S : Shape) where
         valid = rw e v;
         shown = rw e (draw-shows (S .word) 8 ws (endOf (length b)) b rise (omega arith) (fit-words good (endOf (length b)) L v (omega arith)));
       }
+
+-- one that the bytes have already, drawn again, changes nothing
+pub drawn-same : (S : Shape) (b : List ℕ) (L : Layout) → Here S b L → Bytes b → b ≡ draw (S .word) (words S (endOf (length b)) L) b
+drawn-same S b L h bytes = drawn (S .word) (words S (endOf (length b)) L) b b bytes refl (h .shown) (λ i l o. refl)

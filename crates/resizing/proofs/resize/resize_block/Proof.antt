@@ -5,7 +5,7 @@ use Rattle.resizing.proofs.resize.resize_block.Statement.{statement}
 use Rattle.resizing.proofs.resize.resize_block.Tie as tie
 use Rattle.resizing.proofs.resize.resize_block.Reads as reads
 use Rattle.resizing.proofs.resize.resize_block.Lts as lts
-use Rattle.resizing.proofs.reshape.reshape.Reads as reshape-reads
+use Rattle.reshaping.proofs.reshape.Reads as reshape-reads
 use Rattle.resizing.proofs.resize.move_block.Reads as move-block-reads
 
 largest-item-requires : tie.Need-largest-item-requires

@@ -1,18 +1,18 @@
-use Rattle.resizing.proofs.ReshapeLaws.{must-move, stays-so, room-for, resizes}
+use Rattle.reshaping.proofs.ReshapeLaws.{must-move, stays-so, room-for, resizes}
 use Rattle.model.proofs.Sizes.{most-bound}
 use native.Mathlib.Omega.{arith}
 use mathlib.Core.Logic.{⊎-elim}
 use mathlib.Core.Path.{refl}
 use borrow.Author.Needs.{needs}
-use Rattle.resizing.proofs.reshape.reshape.Statement.{statement}
-use Rattle.resizing.proofs.reshape.reshape.Tie as tie
-use Rattle.resizing.proofs.reshape.reshape.Reads as reads
-use Rattle.resizing.proofs.reshape.reshape.Lts as lts
+use Rattle.reshaping.proofs.reshape.Statement.{statement}
+use Rattle.reshaping.proofs.reshape.Tie as tie
+use Rattle.reshaping.proofs.reshape.Reads as reads
+use Rattle.reshaping.proofs.reshape.Lts as lts
 use Rattle.placing.proofs.put_high.Reads as put-high-reads
 use Rattle.placing.proofs.put_low.Reads as put-low-reads
 use Rattle.placing.proofs.taken.Reads as taken-reads
 use Rattle.model.proofs.need_of.Reads as need-of-reads
-use Rattle.resizing.proofs.reshape.reach.Reads as reach-reads
+use Rattle.reshaping.proofs.reach.Reads as reach-reads
 
 need-of-requires : tie.Need-need-of-requires
 need-of-requires c κs = (c .before .pre .0 .width, omega (arith, c .before .pre .1 .most, most-bound (c .before .pre .0 .width)))

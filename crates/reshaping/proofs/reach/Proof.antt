@@ -1,12 +1,12 @@
-use Rattle.resizing.proofs.ReshapeLaws.{behind-room, reach-above, reached}
+use Rattle.reshaping.proofs.ReshapeLaws.{behind-room, reach-above, reached}
 use Rattle.releasing.proofs.ReleaseLaws.{around, right-room}
 use native.Mathlib.Omega.{arith}
 use mathlib.Core.Path.{refl}
 use borrow.Author.Needs.{needs}
-use Rattle.resizing.proofs.reshape.reach.Statement.{statement}
-use Rattle.resizing.proofs.reshape.reach.Tie as tie
-use Rattle.resizing.proofs.reshape.reach.Reads as reads
-use Rattle.resizing.proofs.reshape.reach.Lts as lts
+use Rattle.reshaping.proofs.reach.Statement.{statement}
+use Rattle.reshaping.proofs.reach.Tie as tie
+use Rattle.reshaping.proofs.reach.Reads as reads
+use Rattle.reshaping.proofs.reach.Lts as lts
 use Rattle.releasing.proofs.right_edge.Reads as right-edge-reads
 use Rattle.links.proofs.back_at.Reads as back-at-reads
 use Rattle.links.proofs.link_at.Reads as link-at-reads

@@ -13,7 +13,7 @@ use placing::taken;
 use releasing::right_edge;
 use words::word;
 ghost use Rattle.releasing.specs.Release.{BlockLive};
-ghost use Rattle.resizing.specs.Resize.{Reach, Large, Reshaped};
+ghost use Rattle.reshaping.specs.Reshape.{Reach, Large, Reshaped};
 
 // The block x and a free neighbour behind it, read as one gap.
 fn reach(w: usize, h: &[u8], x: VariableBlock) -> Gap

@@ -1,4 +1,4 @@
--- What resizing asks and promises.
+-- What resizing a block where it stands asks and promises.
 use Prim.Native.Nat.{ℕ, _+_, _-_, _≤_, _<_}
 use mathlib.Core.Path.{_≡_}
 use mathlib.Core.Bool.{Bool, true, false}

@@ -12,15 +12,14 @@ use Rattle.words.specs.Width.{Width}
 use Rattle.words.specs.Word.{wordAt, Bytes}
 use Rattle.model.specs.Shape.{shape, endOf, needOf}
 use Rattle.model.specs.Picture.{draw}
-use Rattle.model.specs.Layout.{variable, Block, used, Layout, useSize, useWords, words}
+use Rattle.model.specs.Layout.{variable, Block, used, Layout, useSize, useWords}
 use Rattle.model.specs.Sound.{Here}
 use Rattle.model.specs.Rules.{Spot, block, stays}
 use Rattle.model.specs.Calls.{drawn}
 use Rattle.model.proofs.Good.{shape-good}
-use Rattle.model.proofs.pictures.Pictures as pictures
 use Rattle.model.proofs.blocks.Middle.{Middle, middle-at, next-in}
 use Rattle.model.specs.inner.Links.{linkOf, backOf, putIf, takes, restAt}
-use Rattle.model.proofs.pictures.Drawn.{drawn-here}
+use Rattle.model.proofs.pictures.Drawn.{drawn-here, drawn-same}
 use Rattle.model.proofs.blocks.Taken.{parts, takes-of}
 use Rattle.model.proofs.blocks.Replace.{three}
 use Rattle.model.proofs.blocks.Resizing.{both-ends, resizedIn, resized-valid, stays-same, stays-cut, stays-grown, stays-none}
@@ -30,14 +29,10 @@ use Rattle.find.specs.Find.{BlockFound}
 use Rattle.links.specs.Links.{BackRoom}
 use Rattle.placing.specs.Blocks.{PartRoom, lowWords, highWords}
 use Rattle.releasing.specs.Release.{rightAt, rightFree, BlockLive}
-use Rattle.resizing.specs.Resize.{Reach, Large, Stays, Reshaped}
+use Rattle.reshaping.specs.Reshape.{Reach, Large, Stays, Reshaped}
 use Rattle.releasing.proofs.ReleaseLaws.{blocks-are, next-free, RightOf, right-of}
 use Rattle.placing.proofs.Taking.{GapIs, part-need, part-drawn}
 use Rattle.model.proofs.Sizes.{words-fit, most-bound}
-
--- a layout drawn over bytes that have it changes nothing
-pub drawn-same : {w : ℕ} (b : List ℕ) (L : Layout) → Here (shape w) b L → Bytes b → b ≡ drawn (shape w) L b
-drawn-same {w} b L h bytes = pictures.drawn w (words (shape w) (endOf (length b)) L) b b bytes refl (h .shown) (λ i l o. refl)
 
 -- where the block x ends, and the next free block as the link to it says
 abbrev stopOf : VariableBlock → ℕ
@@ -99,22 +94,22 @@ module _ {w : ℕ} (wd : Width w) (b : List ℕ) (L : Layout) (a : ℕ) (t : Spo
       unchanged l m bytes =
           let same : record { blocks = t .pre ++ (used (variable (t .size)) ∷ t .post); lists = L .lists } ≡ L = ap (λ (bs : List Block). record { blocks = bs; lists = L .lists }) (sym (blocks-are wd b L a t x h f)) in
           rw (stays-same (shape w) n L t (right .rights) (right .post) (right .r) (right .side) (right .post-is) (right .clear) (big .above) (omega (arith, f .size)) (omega (arith, f .size)), same)
-          (record { answer = refl; bytes = drawn-same b L h bytes; here = h })
+          (record { answer = refl; bytes = drawn-same (shape w) b L h bytes; here = h })
 
-      resized : Layout
-      resized = resizedIn (shape w) n L t (right .rights) (right .post) (right .r) (right .side) (right .post-is) (right .clear) (big .above)
+      resizedLayout : Layout
+      resizedLayout = resizedIn (shape w) n L t (right .rights) (right .post) (right .r) (right .side) (right .post-is) (right .clear) (big .above)
 
       pub written : need ≤ g .size → (need + 4 * w ≤ x .size) ⊎ (x .size < need) → Bytes b → length b ≤ shape w .most → (u : ℕ) → u ≡ takes (shape w) need (g .size) → (h₁ h₂ : List ℕ) → h₁ ≡ draw w (lowWords w g u 2) b
           → h₂ ≡ putIf (shape w) (draw w (highWords w g u 2) h₁) (g .back .0) (restAt (shape w) u (g .size) (g .at .0) (g .prev .0)) → Stays w b L (stays (shape w) n (block t) L) true h₂
-      unfolding resized useWords useSize draw
+      unfolding resizedLayout useWords useSize draw
       written l way bytes short u eu h₁ h₂ e₁ e₂ =
           let v = resized-valid (shape w) n L t (right .rights) (right .post) (right .r) (right .side) (right .post-is) (right .clear) (big .above) (endOf (length b)) (shape-good wd) (omega (arith, gap-is .size)) (h .valid) (blocks-are wd b L a t x h f) in
           let u-is : u ≡ takes (shape w) (needOf (shape w) n) (t .size + right .r) = eu ∙ ap (λ (y : ℕ). takes (shape w) y (g .size)) en ∙ ap (λ (y : ℕ). takes (shape w) (needOf (shape w) n) y) (gap-is .size) in
           let k = takes-of (shape w) (needOf (shape w) n) (t .size + right .r) (omega (arith, gap-is .size)) in
-          let d : h₂ ≡ drawn (shape w) resized b =
+          let d : h₂ ≡ drawn (shape w) resizedLayout b =
           part-drawn wd pair (t .size + right .r) extent g gap-is u 2 (variable u) [] refl (omega (arith, u-is, k .within)) refl bytes short (rw u-is v) h₁ h₁ h₂ e₁ refl e₂
           ∙ ap (λ (y : ℕ). drawn (shape w) (three (shape w) (L .lists) (t .pre) (parts (shape w) y (t .size + right .r) (variable y)) (right .post)) b) u-is in
-          let o : stays (shape w) n (block t) L ≡ some resized =
+          let o : stays (shape w) n (block t) L ≡ some resizedLayout =
           ⊎-elim
           (λ z. stays-cut (shape w) n L t (right .rights) (right .post) (right .r) (right .side) (right .post-is) (right .clear) (big .above) (omega (arith, z, f .size)) (shape-good wd))
           (λ z. stays-grown (shape w) n L t (right .rights) (right .post) (right .r) (right .side) (right .post-is) (right .clear) (big .above) (omega (arith, z, f .size)) (omega (arith, gap-is .size)) (shape-good wd))
@@ -123,7 +118,7 @@ module _ {w : ℕ} (wd : Width w) (b : List ℕ) (L : Layout) (a : ℕ) (t : Spo
           (record {
             answer = refl;
             bytes = d;
-            here = subst (λ (y : List ℕ). Here (shape w) y resized) (sym d) (drawn-here (shape w) (shape-good wd) b resized (h .magic) v short);
+            here = subst (λ (y : List ℕ). Here (shape w) y resizedLayout) (sym d) (drawn-here (shape w) (shape-good wd) b resizedLayout (h .magic) v short);
           })
 
 -- what code reads and writes, in its own numbers
