@@ -32,7 +32,7 @@ use Rattle.releasing.specs.Release.{rightAt, rightFree, BlockLive}
 use Rattle.reshaping.specs.Reshape.{Reach, Large, Stays, Reshaped}
 use Rattle.releasing.proofs.ReleaseLaws.{blocks-are, next-free, RightOf, right-of}
 use Rattle.placing.proofs.Taking.{GapIs, part-need, part-drawn}
-use Rattle.model.proofs.Sizes.{words-fit, most-bound}
+use Rattle.model.proofs.Sizes.{most-bound}
 
 -- where the block x ends, and the next free block as the link to it says
 abbrev stopOf : VariableBlock → ℕ

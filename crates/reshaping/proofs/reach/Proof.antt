@@ -2,7 +2,6 @@ use Rattle.reshaping.proofs.ReshapeLaws.{behind-room, reach-above, reac
 use Rattle.releasing.proofs.ReleaseLaws.{around, right-room}
 use native.Mathlib.Omega.{arith}
 use mathlib.Core.Path.{refl}
-use borrow.Author.Needs.{needs}
 use Rattle.reshaping.proofs.reach.Statement.{statement}
 use Rattle.reshaping.proofs.reach.Tie as tie
 use Rattle.reshaping.proofs.reach.Reads as reads
