@@ -30,7 +30,7 @@ use Rattle.promises.specs.Answered.{AnswersPromised}
 use Rattle.promises.proofs.Stable.{numbers}
 use Rattle.promises.proofs.Cases.{checked-cases}
 use Rattle.promises.proofs.Promised.{wide-promised}
-use Rattle.promises.proofs.OneResult.{refusal-some, refusal-one}
+use Rattle.promises.proofs.OneResult.{refusal-some, refusal-one, outcome-one}
 
 -- an answer is granted exactly where its number is 0, and is a refusal exactly where its number is that refusal's
 is-granted : (r : Answer) (c : List ℕ) → ((a : Address) × (r ≡ Granted a)) ↔ (outcome r c .refusal ≡ 0)
@@ -106,6 +106,9 @@ answers-promised =
             (λ z v k at. i .1 (v, k, at) (f .0 (g .0 z))),
             (λ z. g .1 (f .1 (sure-nothing (find wide a L) (λ n. let w = i .0 n in z (w .0) (w .1) (w .2))))),
           );
+      smaller-kept = λ b n r c L l h x i one le m.
+          let y = wide-promised .smaller-kept b n (outcome r c) L l h x i one le m in
+          (is-granted r c .1 (y .0), λ s k. outcome-one r (Granted (record { 0 = x .address })) c b (y .1 s k));
       columns-add = columns-told;
     }
   where

@@ -3,10 +3,12 @@ use Prim.Native.Nat.{ℕ, _≤_}
 use mathlib.Core.Path.{_≡_}
 use mathlib.Core.Logic.{_↔_}
 use mathlib.Core.List.{List}
+use mathlib.Core.Option.{none}
 use denote.Ref.{RefT, now, ptr}
 use Rattle.model.specs.Shape.{wide}
 use Rattle.model.specs.Layout.{Layout}
 use Rattle.model.specs.Sound.{Here, Sound}
+use Rattle.model.specs.Rules.{find, stays}
 use Rattle.model.specs.Live.{_∈_, Payload, live}
 use Rattle.model.specs.Walking.{column}
 use Rattle.model.specs.Calls.{Lent, granted, Steps, Counts}
@@ -65,6 +67,10 @@ pub record AnswersPromised : Type 0 where
       × ((x : Payload) → x ∈ live wide L → MayAnswer b (resizing (x .address) n) r c → (r ≡ Refused why.NoRoom) ↔ NoRoomFor wide x n L)
   pub not-live-exactly : (b : List ℕ) (a : ℕ) (r : Answer) (c : List ℕ) (L : Layout) → Lent wide b → Here wide b L
       → MayAnswer b (freeing a) r c → (r ≡ Refused why.NotLive) ↔ ((x : Payload) → x ∈ live wide L → x .address ≡ a → ⊥)
+  -- a size that the record x holds already is never refused: where x can neither stay nor move, its address is answered and no byte changes
+  pub smaller-kept : (b : List ℕ) (n : ℕ) (r : Answer) (c : List ℕ) (L : Layout) → Lent wide b → Here wide b L → (x : Payload) → x ∈ live wide L → 1 ≤ n → n ≤ x .size
+      → MayAnswer b (resizing (x .address) n) r c
+      → ((a : Address) × (r ≡ Granted a)) × (stays wide n (find wide (x .address) L) L ≡ none → NoRoom wide n L → (r ≡ Granted (record { 0 = x .address })) × (c ≡ b))
   -- the table's columns add up to the statistics of the same heap
   pub columns-add : (b : List ℕ) (r : Counted) (t : List (List ℕ)) → Counts wide b (toldCounted r) → TableTold b t
       → (column 0 t ≡ r .statistics .pages) × (column 1 t ≡ r .statistics .items)
