@@ -99,9 +99,12 @@ module _ (S : Shape) where
   Frees b a r = Checked b (refused b) (λ L. found (find S a L) (refused b notLive) (granted 0 (drawn (without a L) b))) r
 
   -- Resize has three ways, and each says 6 where it is not open. In place:
-  abbrev pub stayed : List ℕ → ℕ → Option Layout → Outcome
-  stayed b a none = refused b noRoom
-  stayed b a (some L) = granted a (drawn L b)
+  abbrev pub placed : List ℕ → ℕ → Option Layout → Outcome
+  placed b a none = refused b noRoom
+  placed b a (some M) = granted a (drawn M b)
+
+  abbrev pub stayed : List ℕ → ℕ → ℕ → Layout → Outcome
+  stayed b a n L = placed b a (stays S n (find S a L) L)
 
   -- elsewhere: allocate, copy the smaller of old capacity and n, free the old
   abbrev pub movedBytes : List ℕ → ℕ → ℕ → Layout → Made → List ℕ
@@ -116,7 +119,7 @@ module _ (S : Shape) where
 
   -- THE RULE OF RESIZE, cited by its name: the first of the three that is open
   unfoldable pub resized : List ℕ → ℕ → ℕ → Layout → Outcome
-  resized b a n L = found (find S a L) (refused b notLive) (orNext (stayed b a (stays S n (find S a L) L)) (orNext (moved b a n L) (kept b a n L)))
+  resized b a n L = found (find S a L) (refused b notLive) (orNext (stayed b a n L) (orNext (moved b a n L) (kept b a n L)))
 
   abbrev pub Resizes : List ℕ → ℕ → ℕ → Outcome → Type 0
   Resizes b a n r = Checked b (refused b) (λ L. sized n b (resized b a n L)) r

@@ -16,7 +16,7 @@ use Rattle.model.specs.Layout.{Layout}
 use Rattle.model.specs.Sound.{Here}
 use Rattle.model.specs.Rules.{Spot, Made, Found, block, thing, nothing, find, allocate, capacity, stays, freed}
 use Rattle.model.specs.Refusals.{noRoom}
-use Rattle.model.specs.Calls.{Outcome, refused, granted, orNext, drawn, made, without, stayed, movedBytes, moved, kept, resized}
+use Rattle.model.specs.Calls.{Outcome, refused, granted, orNext, drawn, made, without, placed, movedBytes, moved, kept, resized}
 use Rattle.model.proofs.Good.{shape-good}
 use Rattle.model.proofs.Sizes.{need-fits}
 use Rattle.model.proofs.rules.ResizeWays.{resized-nowhere, resized-there}
@@ -100,7 +100,7 @@ module _ {w : ℕ} {b : List ℕ} {a k n : ℕ} {t : Taken} {c : List ℕ} (g : 
 
 -- in place, and otherwise
 module _ (w : ℕ) (b : List ℕ) (a n : ℕ) (L : Layout) (live : find (shape w) a L ≡ nothing → ⊥) where
-  by-rule : (o : Option Layout) → stays (shape w) n (find (shape w) a L) L ≡ o → orNext (stayed (shape w) b a o) (orNext (moved (shape w) b a n L) (kept (shape w) b a n L)) ≡ resized (shape w) b a n L
+  by-rule : (o : Option Layout) → stays (shape w) n (find (shape w) a L) L ≡ o → orNext (placed (shape w) b a o) (orNext (moved (shape w) b a n L) (kept (shape w) b a n L)) ≡ resized (shape w) b a n L
   by-rule o s = rw (sym s) (sym (resized-there (shape w) b a n L (there-is (find (shape w) a L) live)))
 
   goes : (r : Outcome) → stays (shape w) n (find (shape w) a L) L ≡ none → r ≡ orNext (moved (shape w) b a n L) (kept (shape w) b a n L) → r ≡ resized (shape w) b a n L

@@ -32,15 +32,15 @@ module _ (S : Shape) where
   made L none then = refuse noRoom L
   made L (some m) then = grant (m .at) (then m)
 
-  abbrev stayed : ℕ → Layout → Option Layout → Done
-  stayed a L none = refuse noRoom L
-  stayed a L (some M) = grant a M
+  abbrev placed : ℕ → Layout → Option Layout → Done
+  placed a L none = refuse noRoom L
+  placed a L (some M) = grant a M
 
   abbrev kept : ℕ → ℕ → Layout → Done
   kept a n L = cond (leb n (capacity S (find S a L))) (grant a L) (refuse noRoom L)
 
   abbrev pub firstWay : ℕ → ℕ → Layout → Done
-  firstWay a n L = orNext (stayed a L (stays S n (find S a L) L)) (orNext (made L (allocate S n L) (λ m. without S a (m .layout))) (kept a n L))
+  firstWay a n L = orNext (placed a L (stays S n (find S a L) L)) (orNext (made L (allocate S n L) (λ m. without S a (m .layout))) (kept a n L))
 
   unfoldable pub resizedOn : ℕ → ℕ → Layout → Done
   resizedOn a n L = found S (find S a L) (refuse notLive L) (firstWay a n L)

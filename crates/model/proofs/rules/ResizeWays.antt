@@ -31,7 +31,7 @@ module _ (S : Shape) (b : List ℕ) (a n : ℕ) (L : Layout) where
 
   -- the first way that is open
   abbrev first : Outcome
-  first = orNext (stayed S b a (stays S n (find S a L) L)) (orNext (moved S b a n L) (kept S b a n L))
+  first = orNext (stayed S b a n L) (orNext (moved S b a n L) (kept S b a n L))
 
   live-way : isThere (find S a L) ≡ 1 → Way first (firstWay S a n L)
   live-way i = go (stays S n (find S a L) L) refl (allocate S n L) refl (decLe n (capacity S (find S a L)))
