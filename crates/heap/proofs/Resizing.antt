@@ -1,23 +1,21 @@
--- Resize: what the engine's answer shows of the contract. Of document 01's heap, words of 8 bytes.
-use Prim.Native.Nat.{ℕ, _≤_}
-use mathlib.Core.Path.{_≡_, refl, sym, ap, _∙_}
+-- Resize, way by way: what the inner call's answer shows of the contract. Of document 01's heap, words of 8 bytes.
+use Prim.Native.Nat.{ℕ}
+use mathlib.Core.Path.{_≡_, refl, ap, _∙_}
 use mathlib.Core.List.{List}
 use Rattle.model.specs.Shape.{wide}
 use Rattle.model.specs.Layout.{Layout}
 use Rattle.model.specs.Sound.{Here}
-use Rattle.model.specs.Calls.{sized, resized}
+use Rattle.model.specs.Calls.{Way, resizedBy}
 use Rattle.resizing.specs.declared.resize.Resized.{Resized}
 use Rattle.resizing.specs.declared.resize.Resized.the-variants as to
-use Rattle.resizing.specs.Move.{outcomeOf, ByRule}
+use Rattle.resizing.specs.Move.{outcomeOf, ByWay}
 use Rattle.heap.specs.declared.Answer.{Answer}
 use Rattle.heap.specs.Answers.{resizedAs, outcome}
-use Rattle.heap.proofs.Allocating.{good-size}
 
 as-told : (t : Resized) (c : List ℕ) → outcome (resizedAs t) c ≡ outcomeOf t c
 as-told (to.To a) c = refl
 as-told to.NotLive c = refl
 as-told to.NoRoom c = refl
 
-pub resizes : (b : List ℕ) (a n : ℕ) (t : Resized) (r : Answer) (c : List ℕ) → (1 ≤ n) × (n ≤ wide .most) → ByRule 8 b a n t c → r ≡ resizedAs t → (L : Layout) → Here wide b L
-    → outcome r c ≡ sized wide n b (resized wide b a n L)
-resizes b a n t r c z g e L h = ap (λ (x : Answer). outcome x c) e ∙ as-told t c ∙ g .is L h ∙ sym (good-size n b (resized wide b a n L) z)
+pub resizes : (v : Way) (b : List ℕ) (a n : ℕ) (t : Resized) (r : Answer) (c : List ℕ) → ByWay 8 v b a n t c → r ≡ resizedAs t → (L : Layout) → Here wide b L → outcome r c ≡ resizedBy wide v b a n L
+resizes v b a n t r c g e L h = ap (λ (x : Answer). outcome x c) e ∙ as-told t c ∙ g .is L h

@@ -1,5 +1,7 @@
 -- What an answer means: document 01's number, address and bytes.
-use Prim.Native.Nat.{ℕ}
+use Prim.Native.Nat.{ℕ, _≤_}
+use mathlib.Core.Path.{_≡_}
+use mathlib.Core.Logic.{_⊎_}
 use mathlib.Core.List.{List}
 use Rattle.model.specs.Shape.{wide}
 use Rattle.model.specs.Sound.{Sound}
@@ -44,6 +46,14 @@ UnfitFor b AlreadyOpened = ⊥
 unfoldable pub Examined : List ℕ → Verdict → Type 0
 Examined b Fine = Lent wide b × Sound wide b
 Examined b (Unfit k) = UnfitFor b k
+
+-- of a call that has a size: the same, and then 4 where the size is bad
+abbrev pub GoodSize : ℕ → Type 0
+GoodSize n = (1 ≤ n) × (n ≤ wide .most)
+
+unfoldable pub ExaminedFor : List ℕ → ℕ → Verdict → Type 0
+ExaminedFor b n Fine = Examined b Fine × GoodSize n
+ExaminedFor b n (Unfit k) = Examined b (Unfit k) ⊎ ((k ≡ BadSize) × Examined b Fine × (GoodSize n → ⊥))
 
 -- what an allocation found, as an answer
 abbrev pub answerOf : Taken → Answer

@@ -1,6 +1,7 @@
 // The heap's calls. Each checks what it is lent: it does what the rule of documents 01 and 02 says, or refuses and leaves every byte.
 pub mod counting;
 pub mod lookup;
+pub mod resize;
 pub mod walking;
 
 pub use crate::counting::class_table;
@@ -8,6 +9,9 @@ pub use crate::counting::statistics;
 pub use crate::lookup::look_up;
 pub use crate::lookup::look_up_mut;
 pub use crate::lookup::look_up_refusal;
+pub use crate::resize::keep;
+pub use crate::resize::relocate;
+pub use crate::resize::resize_in_place;
 pub use crate::walking::Walk;
 use engine::allocate as taking;
 use engine::free as giving;
@@ -23,16 +27,15 @@ use model::NOT_SOUND;
 use model::longest;
 use model::magic;
 use model::shortest;
-use resizing::resize as sizing;
 use sound::is_sound;
 use words::word;
 ghost use mathlib.Core.Path.{_≡_};
 ghost use Prim.Native.Nat.{_≤_};
 ghost use Rattle.model.specs.Shape.{wide};
 ghost use Rattle.model.specs.Refusals.{alreadyOpened};
-ghost use Rattle.model.specs.Calls.{Lent, Initialises, Checks, Allocates, Frees, Resizes};
+ghost use Rattle.model.specs.Calls.{Lent, Initialises, Checks, Allocates, Frees};
 ghost use Rattle.telling.specs.Tells.{Tells};
-ghost use Rattle.heap.specs.Answers.{Examined, answerOf, resizedAs, outcome, refusalNumber};
+ghost use Rattle.heap.specs.Answers.{GoodSize, Examined, ExaminedFor, answerOf, outcome, refusalNumber};
 
 // The bytes of a word of document 01's heap.
 pub const WORD: usize = 8;
@@ -128,12 +131,28 @@ pub fn check(h: &[u8]) -> Answer
 
 // Whether n bytes can be asked for.
 fn is_size(n: usize) -> bool
-    ensures { λ r. ⌜ Tells r ((1 ≤ n) × (n ≤ wide .most)) ⌝ }
+    ensures { λ r. ⌜ Tells r (GoodSize n) ⌝ }
 {
     if n == 0 {
         return false;
     }
     n <= longest(WORD)
+}
+
+// The same of a call that has a size, and then the size.
+fn examine_for(h: &[u8], n: usize) -> Verdict
+    ensures { λ r. ⌜ ExaminedFor (now (h .entry)) n r ⌝ }
+{
+    let v = examine(h);
+    match v {
+        Verdict::Unfit(k) => Verdict::Unfit(k),
+        Verdict::Fine => {
+            if is_size(n) {
+                return Verdict::Fine;
+            }
+            Verdict::Unfit(Refusal::BadSize)
+        }
+    }
 }
 
 // What an allocation found, as an answer.
@@ -150,15 +169,14 @@ fn granted_or_not(t: taking::Taken) -> Answer
 pub fn allocate(h: &mut [u8], n: usize) -> Answer
     ensures { λ r. ⌜ Allocates wide (now (h .entry)) n (outcome r (now (h .exit))) ⌝ }
 {
-    let v = examine(h);
-    if let Verdict::Unfit(k) = v {
-        return Answer::Refused(k);
+    let v = examine_for(h, n);
+    match v {
+        Verdict::Unfit(k) => Answer::Refused(k),
+        Verdict::Fine => {
+            let t = taking::allocate(WORD, h, n);
+            granted_or_not(t)
+        }
     }
-    if !is_size(n) {
-        return Answer::Refused(Refusal::BadSize);
-    }
-    let t = taking::allocate(WORD, h, n);
-    granted_or_not(t)
 }
 
 // Gives back the record at a.
@@ -176,30 +194,4 @@ pub fn free(h: &mut [u8], a: Address) -> Answer
             Answer::Refused(Refusal::NotLive)
         }
     }
-}
-
-// What a resize came to, as an answer.
-fn resized_or_not(t: sizing::Resized) -> Answer
-    ensures { λ r. ⌜ r ≡ resizedAs t ⌝ }
-{
-    match t {
-        sizing::Resized::To(a) => Answer::Granted(a),
-        sizing::Resized::NotLive => Answer::Refused(Refusal::NotLive),
-        sizing::Resized::NoRoom => Answer::Refused(Refusal::NoRoom),
-    }
-}
-
-// Makes the record at a one of n bytes, there or elsewhere; where there is no room, one that holds n bytes already stays as it is.
-pub fn resize(h: &mut [u8], a: Address, n: usize) -> Answer
-    ensures { λ r. ⌜ Resizes wide (now (h .entry)) (a .0) n (outcome r (now (h .exit))) ⌝ }
-{
-    let v = examine(h);
-    if let Verdict::Unfit(k) = v {
-        return Answer::Refused(k);
-    }
-    if !is_size(n) {
-        return Answer::Refused(Refusal::BadSize);
-    }
-    let t = sizing::resize(WORD, h, a, n);
-    resized_or_not(t)
 }

@@ -5,7 +5,7 @@ use model::Address;
 ghost use mathlib.Core.Path.{_≡_};
 ghost use mathlib.Core.List.{[]};
 ghost use Rattle.model.specs.Shape.{wide};
-ghost use Rattle.model.specs.Calls.{Initialises, Checks, Allocates, Frees, Resizes};
+ghost use Rattle.model.specs.Calls.{Initialises, Checks, Allocates, Frees, ResizesInPlace, Moves, Resizes};
 ghost use Rattle.heap.specs.Answers.{outcome};
 ghost use Rattle.jagwibodu.specs.Numbers.{Numbered};
 
@@ -48,8 +48,22 @@ pub extern "C" fn jagwibodu_free(h: &mut [u8], address: u64) -> u64
 }
 
 #[no_mangle]
+pub extern "C" fn jagwibodu_resize_in_place(h: &mut [u8], address: u64, size: u64) -> u64
+    ensures { λ r. ⌜ Numbered (ResizesInPlace wide (now (h .entry)) address size) r (now (h .exit)) ⌝ }
+{
+    number(heap::resize_in_place(h, Address(address as usize), size as usize))
+}
+
+#[no_mangle]
+pub extern "C" fn jagwibodu_move(h: &mut [u8], address: u64, size: u64) -> u64
+    ensures { λ r. ⌜ Numbered (Moves wide (now (h .entry)) address size) r (now (h .exit)) ⌝ }
+{
+    number(heap::relocate(h, Address(address as usize), size as usize))
+}
+
+#[no_mangle]
 pub extern "C" fn jagwibodu_resize(h: &mut [u8], address: u64, size: u64) -> u64
     ensures { λ r. ⌜ Numbered (Resizes wide (now (h .entry)) address size) r (now (h .exit)) ⌝ }
 {
-    number(heap::resize(h, Address(address as usize), size as usize))
+    number(trying::resize(h, Address(address as usize), size as usize))
 }

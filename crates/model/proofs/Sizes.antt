@@ -1,11 +1,8 @@
 -- Laws of the sizes of blocks, items and pages.
 use Prim.Native.Nat.{ℕ, _+_, _-_, _*_, _/_, _%_, _≤_, _<_, _^_}
-use mathlib.Core.Path.{_≡_, refl, sym, _∙_}
+use mathlib.Core.Path.{_≡_, refl}
 use native.Mathlib.Nat.{div-le-self, div-mul-le-self, mul-le-mul-left}
 use native.Mathlib.Omega.{arith}
-use native.Mathlib.Decide.{decLe}
-use lib.Dec.{leb}
-use borrow.Author.Tests.{le-leb, lt-leb}
 use Rattle.words.specs.Width.{Width}
 use Rattle.words.proofs.WidthLaws.{widths}
 use Rattle.model.specs.Shape.{shape, up8, start, index, leastVariable, needOf, itemSize, pageNeed}
@@ -105,20 +102,6 @@ heads-room w c l = mul-le-mul-left w l
 -- the end of a heap that is long enough leaves room for the least free block
 pub end-room : {w : ℕ} → Width w → (n : ℕ) → start (shape w) + 4 * w ≤ n → start (shape w) + 4 * w ≤ n / 8 * 8
 end-room {w} k n = widths (λ w. start (shape w) + 4 * w ≤ n → start (shape w) + 4 * w ≤ n / 8 * 8) (omega arith) (omega arith) w k
-
--- a block that holds n bytes is no less than one for n bytes
-pub need-fits : {w : ℕ} → Width w → (n s : ℕ) → leastVariable (shape w) ≤ s → s % 8 ≡ 0 → leb (needOf (shape w) n) s ≡ leb n (s - 2 * w)
-need-fits {w} k n s least eights = go (decLe n (s - 2 * w))
-  where
-    fits : n ≤ s - 2 * w → needOf (shape w) n ≤ s
-    fits = widths (λ w. leastVariable (shape w) ≤ s → n ≤ s - 2 * w → needOf (shape w) n ≤ s) (omega arith) (omega arith) w k least
-
-    lacks : s - 2 * w < n → s < needOf (shape w) n
-    lacks = widths (λ w. leastVariable (shape w) ≤ s → s - 2 * w < n → s < needOf (shape w) n) (omega arith) (omega arith) w k least
-
-    go : Dec (n ≤ s - 2 * w) → leb (needOf (shape w) n) s ≡ leb n (s - 2 * w)
-    go (yes l) = le-leb (needOf (shape w) n) s (fits l) ∙ sym (le-leb n (s - 2 * w) l)
-    go (no l) = lt-leb (needOf (shape w) n) s (lacks (omega (arith, l))) ∙ sym (lt-leb n (s - 2 * w) (omega (arith, l)))
 
 -- a size above the largest item needs a block that is large enough
 pub need-sized : {w : ℕ} → Width w → (n : ℕ) → 32 * w < n → (leastVariable (shape w) ≤ needOf (shape w) n) × (needOf (shape w) n % 8 ≡ 0)

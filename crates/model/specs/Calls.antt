@@ -37,6 +37,12 @@ number o = o .refusal * 2 ^ 32 + o .address
 abbrev pub orNext : Outcome → Outcome → Outcome
 orNext r next = cond (eqb (r .refusal) noRoom) next r
 
+-- the ways of resize: in place, elsewhere, as it is
+pub data Way : Type 0 where
+  staying : Way
+  moving : Way
+  keeping : Way
+
 -- of a call that only reads: its refusal, and what it answers
 pub record Told (A : Type 0) : Type 0 where
   pub refusal : ℕ
@@ -123,6 +129,30 @@ module _ (S : Shape) where
 
   abbrev pub Resizes : List ℕ → ℕ → ℕ → Outcome → Type 0
   Resizes b a n r = Checked b (refused b) (λ L. sized n b (resized b a n L)) r
+
+  -- Each way is a call by itself, too: 4 where the size is bad, 5 where nothing is live at the address, and else what the way gives
+  abbrev pub oneWay : Way → List ℕ → ℕ → ℕ → Layout → Outcome
+  oneWay staying b a n L = stayed b a n L
+  oneWay moving b a n L = moved b a n L
+  oneWay keeping b a n L = kept b a n L
+
+  unfoldable pub resizedBy : Way → List ℕ → ℕ → ℕ → Layout → Outcome
+  resizedBy v b a n L = found (find S a L) (refused b notLive) (oneWay v b a n L)
+
+  abbrev pub ResizesBy : Way → List ℕ → ℕ → ℕ → Outcome → Type 0
+  ResizesBy v b a n r = Checked b (refused b) (λ L. sized n b (resizedBy v b a n L)) r
+
+  -- Resize in place, or 6
+  abbrev pub ResizesInPlace : List ℕ → ℕ → ℕ → Outcome → Type 0
+  ResizesInPlace b a n r = ResizesBy staying b a n r
+
+  -- Move, to the same class too, or 6
+  abbrev pub Moves : List ℕ → ℕ → ℕ → Outcome → Type 0
+  Moves b a n r = ResizesBy moving b a n r
+
+  -- Keep, which a caller tries last, or 6
+  abbrev pub Keeps : List ℕ → ℕ → ℕ → Outcome → Type 0
+  Keeps b a n r = ResizesBy keeping b a n r
 
   -- Look-up
   abbrev pub LooksUp : List ℕ → ℕ → Told (List ℕ) → Type 0

@@ -13,7 +13,7 @@ use Rattle.model.specs.Rules.{nothing, find, stays}
 use Rattle.model.specs.Live.{_∈_, InTurn, Payload, content, live}
 use Rattle.model.specs.Reading.{Step, Statistics, lookedUp}
 use Rattle.model.specs.Refusals.{badLength, notOpened, notSound, badSize, notLive, noRoom, alreadyOpened}
-use Rattle.model.specs.Calls.{Outcome, Told, refused, granted, Lent, Initialises, Checks, Allocates, Frees, Resizes, LooksUp, Steps, Counts, Tabulates}
+use Rattle.model.specs.Calls.{Way, staying, moving, keeping, Outcome, Told, refused, granted, orNext, Lent, Initialises, Checks, Allocates, Frees, Resizes, ResizesBy, ResizesInPlace, Moves, Keeps, LooksUp, Steps, Counts, Tabulates}
 
 -- a call that may change the heap, by its sizes and addresses
 pub data Call : Type 0 where
@@ -22,6 +22,7 @@ pub data Call : Type 0 where
   allocating : ℕ → Call
   freeing : ℕ → Call
   resizing : ℕ → ℕ → Call
+  resizingBy : Way → ℕ → ℕ → Call
 
 -- the numbers that a call can answer at all; those that a call that only reads can, and a look-up
 unfoldable pub numbersOf : Call → List ℕ
@@ -30,6 +31,7 @@ numbersOf checking = 0 ∷ badLength ∷ notOpened ∷ notSound ∷ []
 numbersOf (allocating n) = 0 ∷ badLength ∷ notOpened ∷ notSound ∷ badSize ∷ noRoom ∷ []
 numbersOf (freeing a) = 0 ∷ badLength ∷ notOpened ∷ notSound ∷ notLive ∷ []
 numbersOf (resizing a n) = 0 ∷ badLength ∷ notOpened ∷ notSound ∷ badSize ∷ notLive ∷ noRoom ∷ []
+numbersOf (resizingBy v a n) = 0 ∷ badLength ∷ notOpened ∷ notSound ∷ badSize ∷ notLive ∷ noRoom ∷ []
 
 abbrev pub readingNumbers : List ℕ
 readingNumbers = 0 ∷ badLength ∷ notOpened ∷ notSound ∷ []
@@ -45,6 +47,7 @@ module _ (S : Shape) where
   Comes b (allocating n) r = Allocates S b n r
   Comes b (freeing a) r = Frees S b a r
   Comes b (resizing a n) r = Resizes S b a n r
+  Comes b (resizingBy v a n) r = ResizesBy S v b a n r
 
   -- Demand 1: a refusal answers address 0 and leaves every byte as it was
   abbrev pub RefusedUntouched : Type 0
@@ -152,8 +155,23 @@ module _ (S : Shape) where
       × (take (min (x .size) n) (content (r .heap) y) ≡ take (min (x .size) n) (content b x))))
       × ((r .address ≡ a → ⊥) → (x : Payload) → x ∈ live S L′ → x .address ≡ a → ⊥)
 
-  abbrev pub ResizeKeeps : Type 0
-  ResizeKeeps = (b : List ℕ) (a n : ℕ) (r : Outcome) (L L′ : Layout) → Grants b (resizing a n) r L L′ → ResizeKept b a n L r L′
+  abbrev pub ResizeKeeps : (ℕ → ℕ → Call) → Type 0
+  ResizeKeeps form = (b : List ℕ) (a n : ℕ) (r : Outcome) (L L′ : Layout) → Grants b (form a n) r L L′ → ResizeKept b a n L r L′
+
+  -- in place gives the record's own address, a move never does
+  abbrev pub InPlaceStays : Type 0
+  InPlaceStays = (b : List ℕ) (a n : ℕ) (r : Outcome) → ResizesInPlace S b a n r → r .refusal ≡ 0 → r .address ≡ a
+
+  abbrev pub MoveMoves : Type 0
+  MoveMoves = (b : List ℕ) (a n : ℕ) (r : Outcome) → Moves S b a n r → r .refusal ≡ 0 → r .address ≡ a → ⊥
+
+  -- in place, then a move where that says "no room", then keeping the record where that says so too: what resize gives, address and bytes
+  abbrev pub SplitGives : Type 0
+  SplitGives =
+      (b : List ℕ) (a n : ℕ) (r s t : Outcome) → ResizesInPlace S b a n r
+      → (r .refusal ≡ noRoom → Moves S (r .heap) a n s)
+      → (r .refusal ≡ noRoom → s .refusal ≡ noRoom → Keeps S (s .heap) a n t)
+      → Resizes S b a n (orNext r (orNext s t))
 
   -- "no room" exactly when there is no item and no block that fits
   abbrev pub NoBlock : ℕ → Layout → Type 0
@@ -164,15 +182,21 @@ module _ (S : Shape) where
       (n ≤ largestItem S → (getD (L .lists) (classOf n) [] ≡ []) × NoBlock (pageNeed S (classOf n)) L)
       × (largestItem S < n → NoBlock (needOf S n) L)
 
-  -- and from a resize exactly when, besides, the record x can neither stay nor hold n bytes as it is
+  -- one way of resize says 6 exactly when the record x cannot stay, or the allocation finds nothing, or x does not hold n bytes as it is; resize, when all three
+  abbrev pub NotOpen : Way → Payload → ℕ → Layout → Type 0
+  NotOpen staying x n L = stays S n (find S (x .address) L) L ≡ none
+  NotOpen moving x n L = NoRoom n L
+  NotOpen keeping x n L = x .size < n
+
   abbrev pub NoRoomFor : Payload → ℕ → Layout → Type 0
-  NoRoomFor x n L = (stays S n (find S (x .address) L) L ≡ none) × NoRoom n L × (x .size < n)
+  NoRoomFor x n L = NotOpen staying x n L × NotOpen moving x n L × NotOpen keeping x n L
 
   abbrev pub NoRoomExactly : Type 0
   NoRoomExactly =
       (b : List ℕ) (n : ℕ) (r : Outcome) (L : Layout) → Lent S b → Here S b L → 1 ≤ n → n ≤ S .most
       → (Allocates S b n r → (r .refusal ≡ noRoom) ↔ NoRoom n L)
       × ((x : Payload) → x ∈ live S L → Resizes S b (x .address) n r → (r .refusal ≡ noRoom) ↔ NoRoomFor x n L)
+      × ((v : Way) (x : Payload) → x ∈ live S L → ResizesBy S v b (x .address) n r → (r .refusal ≡ noRoom) ↔ NotOpen v x n L)
 
   -- a size that the record x holds already is never refused: where x can neither stay nor move it is kept, and no byte changes
   abbrev pub SmallerKept : Type 0
@@ -193,6 +217,7 @@ module _ (S : Shape) where
   Plain (allocating n) = Unit {0}
   Plain (freeing a) = Unit {0}
   Plain (resizing a n) = ⊥
+  Plain (resizingBy v a n) = ⊥
 
   -- what a call of a run answered
   pub record Reply : Type 0 where
@@ -230,7 +255,11 @@ module _ (S : Shape) where
     pub look-up-shows : LookUpShows
     pub allocate-keeps : AllocateKeeps
     pub free-keeps : FreeKeeps
-    pub resize-keeps : ResizeKeeps
+    pub resize-keeps : ResizeKeeps resizing
+    pub each-way-keeps : (v : Way) → ResizeKeeps (resizingBy v)
+    pub in-place-stays : InPlaceStays
+    pub move-moves : MoveMoves
+    pub split-gives : SplitGives
     pub no-room-exactly : NoRoomExactly
     pub smaller-kept : SmallerKept
     pub longer-agrees : LongerAgrees

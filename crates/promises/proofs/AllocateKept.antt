@@ -5,22 +5,21 @@ use mathlib.Core.List.{List}
 use mathlib.Core.Logic.{inl, inr, ⊎-elim}
 use mathlib.Core.Option.{Option, none, some}
 use native.Mathlib.Omega.{arith}
-use native.Mathlib.Decide.{decLe}
 use lib.ListN.{length}
-use borrow.Author.Tests.{le-leb, lt-leb}
 use Rattle.words.specs.Width.{Width}
 use Rattle.model.specs.Shape.{shape, endOf}
 use Rattle.model.specs.Layout.{Layout}
 use Rattle.model.specs.Sound.{Here}
 use Rattle.model.specs.Rules.{Made, allocate}
-use Rattle.model.specs.Live.{_∈_, Payload, live}
-use Rattle.model.specs.Refusals.{badSize, noRoom}
+use Rattle.model.specs.Live.{Payload}
+use Rattle.model.specs.Refusals.{noRoom}
 use Rattle.model.specs.Calls.{Outcome, refused, granted, drawn, sized, allocated}
-use Rattle.model.specs.Promises.{AllocateKept, Comes, Kept, OnlyNew, AllocateKeeps}
+use Rattle.model.specs.Promises.{AllocateKept, Comes, AllocateKeeps}
 use Rattle.model.proofs.Good.{shape-good}
 use Rattle.model.proofs.lives.Payloads.{content-kept}
 use Rattle.model.proofs.rules.Allocation.{Granted, allocate-grants}
 use Rattle.sound.proofs.OneLayout.{one-layout}
+use Rattle.promises.proofs.Cases.{granted-size}
 use Rattle.promises.proofs.Answers.{draws}
 
 module _ {w : ℕ} (wd : Width w) where
@@ -32,19 +31,13 @@ module _ {w : ℕ} (wd : Width w) where
     pub is : r ≡ granted (made .at) (drawn (shape w) (made .layout) b)
 
   pub made-of : (b : List ℕ) (n : ℕ) (L : Layout) (r : Outcome) → r ≡ sized (shape w) n b (allocated (shape w) b n L) → r .refusal ≡ 0 → MadeOf b n L r
-  made-of b n L r e g = go (decLe 1 n) (decLe n (shape w .most)) (allocate (shape w) n L) refl
+  made-of b n L r e g = go (granted-size (shape w) b n (allocated (shape w) b n L) r e g) (allocate (shape w) n L) refl
     where
-      go : Dec (1 ≤ n) → Dec (n ≤ (shape w .most)) → (o : Option Made) → allocate (shape w) n L ≡ o → MadeOf b n L r
-      go (no i) j o k =
-          let f : r ≡ refused b badSize = rw (lt-leb 1 n (omega arith)) at e in
+      go : (1 ≤ n) × (r ≡ allocated (shape w) b n L) → (o : Option Made) → allocate (shape w) n L ≡ o → MadeOf b n L r
+      go s none k =
+          let f : r ≡ refused b noRoom = rw k at (s .1) in
           absurd (omega (arith, g, ap (λ (x : Outcome). x .refusal) f))
-      go (yes i) (no j) o k =
-          let f : r ≡ refused b badSize = rw (le-leb 1 n i, lt-leb n (shape w .most) (omega arith)) at e in
-          absurd (omega (arith, g, ap (λ (x : Outcome). x .refusal) f))
-      go (yes i) (yes j) none k =
-          let f : r ≡ refused b noRoom = rw (le-leb 1 n i, le-leb n (shape w .most) j, k) at e in
-          absurd (omega (arith, g, ap (λ (x : Outcome). x .refusal) f))
-      go (yes i) (yes j) (some m) k = record { some-byte = i; made = m; found = k; is = rw (le-leb 1 n i, le-leb n (shape w .most) j, k) at e }
+      go s (some m) k = record { some-byte = s .0; made = m; found = k; is = rw k at (s .1) }
 
   granted-kept : (b : List ℕ) (n : ℕ) (L : Layout) (m : Made) → Granted (shape w) (endOf (length b)) n L m → AllocateKept (shape w) b n L (granted (m .at) (drawn (shape w) (m .layout) b)) (m .layout)
   granted-kept b n L m k = (

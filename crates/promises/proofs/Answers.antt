@@ -13,16 +13,16 @@ use Rattle.model.specs.Shape.{shape, endOf}
 use Rattle.model.specs.Layout.{Layout, words}
 use Rattle.model.specs.Sound.{Valid, Here}
 use Rattle.model.specs.Rules.{Made, Found, block, thing, nothing, allocate, find, freed}
-use Rattle.model.specs.Refusals.{notLive}
+use Rattle.model.specs.Refusals.{notLive, noRoom}
 use Rattle.model.specs.Calls.{Outcome, refused, granted, Lent, drawn, sized, found, allocated, without}
-use Rattle.model.specs.Promises.{Call, initialising, checking, allocating, freeing, resizing, Comes, Plain}
+use Rattle.model.specs.Promises.{Call, initialising, checking, allocating, freeing, resizing, resizingBy, Comes, Plain}
 use Rattle.model.proofs.Good.{shape-good}
 use Rattle.model.proofs.pictures.Pictures.{length-draw, bytes-draw}
 use Rattle.model.proofs.pictures.Drawn.{drawn-here, drawn-same}
 use Rattle.model.proofs.lives.LiveFound.{isThere}
 use Rattle.model.proofs.lives.FreeLives.{freed-removes}
 use Rattle.model.proofs.rules.Allocation.{allocate-grants}
-use Rattle.model.proofs.rules.OnLayouts.{Done, doing}
+use Rattle.model.proofs.rules.OnLayouts.{Done, refuse, grant, sizedOn, doing}
 
 module _ {w : ℕ} (wd : Width w) where
   -- an outcome is what was done on the layout; where that stays, so does every byte
@@ -56,17 +56,23 @@ module _ {w : ℕ} (wd : Width w) where
     pub drew : (a : ℕ) (M : Layout) → Valid (shape w) (endOf (length b)) M → Does b L (granted a (drawn (shape w) M b)) (record { refusal = 0; address = a; layout = M })
     drew a M v = record { refusal = refl; address = refl; same = drawn-length M; here = draws M v; bytes = drawn-bytes M; still = redrawn M }
 
+    pub sized-does : (n : ℕ) (o : Outcome) (d : Done) → (1 ≤ n → Does b L o d) → Does b L (sized (shape w) n b o) (sizedOn (shape w) n L d)
+    sized-does n o d x = go (decLe 1 n) (decLe n (shape w .most))
+      where
+        go : Dec (1 ≤ n) → Dec (n ≤ (shape w .most)) → Does b L (sized (shape w) n b o) (sizedOn (shape w) n L d)
+        go (no i) j = rw (lt-leb 1 n (omega arith)) (left _ _)
+        go (yes i) (no j) = rw (le-leb 1 n i, lt-leb n (shape w .most) (omega arith)) (left _ _)
+        go (yes i) (yes j) = rw (le-leb 1 n i, le-leb n (shape w .most) j) (x i)
+
     allocating-does : (n : ℕ) → Does b L (sized (shape w) n b (allocated (shape w) b n L)) (doing (shape w) (allocating n) L)
     unfolding doing
-    allocating-does n = go (decLe 1 n) (decLe n (shape w .most)) (allocate (shape w) n L) refl
+    allocating-does n = go (allocate (shape w) n L) refl
       where
-        go : Dec (1 ≤ n) → Dec (n ≤ (shape w .most)) → (o : Option Made) → allocate (shape w) n L ≡ o → Does b L (sized (shape w) n b (allocated (shape w) b n L)) (doing (shape w) (allocating n) L)
-        go (no i) j o e = rw (lt-leb 1 n (omega arith)) (left _ _)
-        go (yes i) (no j) o e = rw (le-leb 1 n i, lt-leb n (shape w .most) (omega arith)) (left _ _)
-        go (yes i) (yes j) none e = rw (le-leb 1 n i, le-leb n (shape w .most) j, e) (left _ _)
-        go (yes i) (yes j) (some m) e =
-            let g = allocate-grants (shape w) (endOf (length b)) n (shape-good wd) L m (h .valid) i e in
-            rw (le-leb 1 n i, le-leb n (shape w .most) j, e) (drew _ (m .layout) (g .valid))
+        go : (o : Option Made) → allocate (shape w) n L ≡ o → Does b L (sized (shape w) n b (allocated (shape w) b n L)) (doing (shape w) (allocating n) L)
+        go none e = rw e (sized-does n (refused b noRoom) (refuse noRoom L) (λ i. left noRoom 0))
+        go (some m) e =
+            rw e (sized-does n (granted (m .at) (drawn (shape w) (m .layout) b)) (grant (m .at) (m .layout))
+            (λ i. drew (m .at) (m .layout) (allocate-grants (shape w) (endOf (length b)) n (shape-good wd) L m (h .valid) i e .valid)))
 
     freed-valid : (a : ℕ) (f : Found) → find (shape w) a L ≡ f → isThere f ≡ 1 → Valid (shape w) (endOf (length b)) (freed (shape w) f L)
     freed-valid a f e i = freed-removes (shape w) (shape-good wd) (h .valid) a f e (λ n. omega (arith, i, ap isThere n)) .valid
@@ -91,3 +97,4 @@ module _ {w : ℕ} (wd : Width w) where
     answers (freeing a) p r c =
         does-same r (found (shape w) (find (shape w) a L) (refused b notLive) (granted 0 (drawn (shape w) (without (shape w) a L) b))) (doing (shape w) (freeing a) L) (c .sound l L h) (freeing-does a)
     answers (resizing a n) p r c = absurd p
+    answers (resizingBy v a n) p r c = absurd p

@@ -1,7 +1,7 @@
 -- Demands 1 and 2 of what the calls of crate `heap` answer: those of outcomes, through what an answer means.
 use Prim.Native.Nat.{ℕ}
 use mathlib.Core.Path.{_≡_, refl, sym, ap, _∙_}
-use mathlib.Core.Logic.{_↔_}
+use mathlib.Core.Logic.{_↔_, Iff·trans}
 use mathlib.Core.List.{List, []}
 use native.Mathlib.Omega.{arith}
 use lib.ListN.{length}
@@ -84,21 +84,19 @@ answers-promised =
     record {
       refused-untouched = λ b q k c x. ap (λ (o : Outcome). o .heap) (wide-promised .refused-untouched b q (outcome (Refused k) c) x (λ e. omega (arith, e, refusal-some k)));
       answers-only = λ b q r c x. wide-promised .answers-only b q (outcome r c) x;
-      accepts-exactly = λ b r c x.
-          let g = is-granted r c in
-          let y = wide-promised .accepts-exactly b (outcome r c) x in
-          ((λ z. y .0 (g .0 z)), (λ z. g .1 (y .1 z)));
+      accepts-exactly = λ b r c x. Iff·trans (is-granted r c) (wide-promised .accepts-exactly b (outcome r c) x);
       stays-sound = λ b q r c x s. heap-of r c (wide-promised .stays-sound b q (outcome r c) x s);
       opens-sound = λ b a c x. wide-promised .opens-sound b (outcome (Granted a) c) x refl;
       allocate-keeps = λ b n a c L L′ l h x k. wide-promised .allocate-keeps b n (granted (a .0) c) L L′ (record { lent = l; here = h; comes = x; granted = refl; then = k });
       free-keeps = λ b a y c L L′ l h x k. wide-promised .free-keeps b a (granted (y .0) c) L L′ (record { lent = l; here = h; comes = x; granted = refl; then = k });
       resize-keeps = λ b a n y c L L′ l h x k. wide-promised .resize-keeps b a n (granted (y .0) c) L L′ (record { lent = l; here = h; comes = x; granted = refl; then = k });
+      each-way-keeps = λ v b a n y c L L′ l h x k. wide-promised .each-way-keeps v b a n (granted (y .0) c) L L′ (record { lent = l; here = h; comes = x; granted = refl; then = k });
+      in-place-stays = λ b a n y c x. wide-promised .in-place-stays b a n (granted (y .0) c) x refl;
+      move-moves = λ b a n y c x. wide-promised .move-moves b a n (granted (y .0) c) x refl;
       no-room-exactly = λ b n r c L l h one most.
           let p = wide-promised .no-room-exactly b n (outcome r c) L l h one most in
-          let g = is-refused why.NoRoom r c in (
-            (λ x. let y = p .0 x in ((λ z. y .0 (g .0 z)), (λ z. g .1 (y .1 z)))),
-            (λ v i x. let y = p .1 v i x in ((λ z. y .0 (g .0 z)), (λ z. g .1 (y .1 z)))),
-          );
+          let g = is-refused why.NoRoom r c in
+          ((λ m. Iff·trans g (p .0 m)), (λ x i m. Iff·trans g (p .1 x i m)), (λ v x i m. Iff·trans g (p .2 v x i m)));
       not-live-exactly = λ b a r c L l h x.
           let g = is-refused why.NotLive r c in
           let f = free-answers b a (outcome r c) L (x .sound l L h) in

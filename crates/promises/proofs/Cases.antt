@@ -1,10 +1,15 @@
 -- The cases of a contract: what follows in each of them cannot fail, though soundness is not decided here.
-use Prim.Native.Nat.{ℕ}
+use Prim.Native.Nat.{ℕ, _≤_}
+use mathlib.Core.Path.{_≡_, sym, ap, _∙_}
 use mathlib.Core.List.{List}
+use native.Mathlib.Omega.{arith}
+use native.Mathlib.Decide.{decLe}
+use borrow.Author.Tests.{le-leb, lt-leb}
 use Rattle.model.specs.Shape.{Shape}
 use Rattle.model.specs.Layout.{Layout}
 use Rattle.model.specs.Sound.{Here, Sound}
-use Rattle.model.specs.Calls.{Lent, Opened}
+use Rattle.model.specs.Refusals.{badSize}
+use Rattle.model.specs.Calls.{Outcome, refused, Lent, Opened, Checked, sized}
 
 module _ (S : Shape) (b : List ℕ) {P : Type 0} where
   -- for every call but initialise
@@ -14,3 +19,28 @@ module _ (S : Shape) (b : List ℕ) {P : Type 0} where
   -- for initialise
   pub opening-cases : ((Lent S b → ⊥) → P) → (Lent S b → Opened S b → P) → (Lent S b → (Opened S b → ⊥) → P) → (P → ⊥) → ⊥
   opening-cases one seven opens n = n (one (λ l. n (opens l (λ o. n (seven l o)))))
+
+  -- where a call was granted, only the rule is left
+  pub granted-cases : (rule : Layout → Outcome) (r : Outcome) → Checked S b (refused b) rule r → r .refusal ≡ 0 → (Lent S b → (L : Layout) → Here S b L → r ≡ rule L → P) → (P → ⊥) → ⊥
+  granted-cases rule r c g four =
+      checked-cases (λ m. absurd (omega (arith, is-zero (c .one m)))) (λ l m. absurd (omega (arith, is-zero (c .two l m)))) (λ l o m. absurd (omega (arith, is-zero (c .three l o m)))) (λ l L h. four l L h (c .sound l L h))
+    where
+      is-zero : {k : ℕ} → r ≡ refused b k → k ≡ 0
+      is-zero e = sym (ap (λ (x : Outcome). x .refusal) e) ∙ g
+
+-- what came of a call with a size
+module _ (S : Shape) (b : List ℕ) (n : ℕ) (o r : Outcome) (e : r ≡ sized S n b o) where
+  pub good-size : 1 ≤ n → n ≤ S .most → r ≡ o
+  good-size one most = rw (le-leb 1 n one, le-leb n (S .most) most) at e
+
+  -- none is granted for a bad size
+  pub granted-size : r .refusal ≡ 0 → (1 ≤ n) × (r ≡ o)
+  granted-size g = go (decLe 1 n) (decLe n (S .most))
+    where
+      not-bad : r ≡ refused b badSize → ⊥
+      not-bad f = omega (arith, g, ap (λ (x : Outcome). x .refusal) f)
+
+      go : Dec (1 ≤ n) → Dec (n ≤ S .most) → (1 ≤ n) × (r ≡ o)
+      go (no i) j = absurd (not-bad (rw (lt-leb 1 n (omega arith)) at e))
+      go (yes i) (no j) = absurd (not-bad (rw (le-leb 1 n i, lt-leb n (S .most) (omega arith)) at e))
+      go (yes i) (yes j) = (i, good-size i j)

@@ -13,6 +13,7 @@ pub mod Numbers
 pub mod FoundLive
 pub mod Moved
 pub mod ResizeKept
+pub mod Places
 pub mod StaysSound
 pub mod NoRoomExact
 pub mod Longer

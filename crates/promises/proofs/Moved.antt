@@ -113,9 +113,13 @@ module _ {w : ℕ} (wd : Width w) where
               ∙ content-kept (shape w) (endOf (length b)) K b (new .valid) x i,
         )
 
-    -- the new record is live, with the old one's beginning
+    -- the new record does not stand where the old one did
+    pub moved-away : m .at ≡ a → ⊥
+    moved-away e = new .adds .new (was .payload) (was .adds .there) (was .at ∙ sym e ∙ sym (new .at))
+
+    -- it is live, with the old one's beginning
     new-still : new .payload ∈ live (shape w) (without (shape w) a K)
-    new-still = still (new .payload) (new .adds .there) (λ e. new .adds .new (was .payload) (was .adds .there) (was .at ∙ sym e))
+    new-still = still (new .payload) (new .adds .there) (λ e. moved-away (sym (new .at) ∙ e))
 
     -- so the layout is another
     moved-elsewhere : without (shape w) a (m .layout) ≡ L → ⊥

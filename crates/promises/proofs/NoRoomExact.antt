@@ -1,79 +1,80 @@
--- "No room" exactly when there is no item and no block that fits; for a resize, where the record can neither stay nor hold n bytes as it is.
-use Prim.Native.Nat.{ℕ, _≤_, _<_}
+-- "No room" exactly when there is no item and no block that fits; from one way of resize, when that way is not open to the record, and from resize, when none is.
+use Prim.Native.Nat.{ℕ, _≤_}
 use mathlib.Core.Path.{_≡_, refl, sym, ap, _∙_}
 use mathlib.Core.List.{List}
-use mathlib.Core.Logic.{_↔_}
-use mathlib.Core.Option.{Option, none, some, Option·none-ne-some}
+use mathlib.Core.Logic.{_↔_, Iff·rfl, Iff·trans}
+use mathlib.Core.Option.{none}
 use native.Mathlib.Omega.{arith}
 use lib.ListN.{length}
-use borrow.Author.Tests.{le-leb}
 use Rattle.words.specs.Width.{Width}
 use Rattle.model.specs.Shape.{shape, endOf}
 use Rattle.model.specs.Layout.{Layout}
 use Rattle.model.specs.Sound.{Here}
-use Rattle.model.specs.Rules.{Made, allocate, find, capacity, stays}
+use Rattle.model.specs.Rules.{allocate, find, capacity}
 use Rattle.model.specs.Live.{_∈_, Payload, live}
 use Rattle.model.specs.Refusals.{noRoom}
-use Rattle.model.specs.Calls.{Outcome, granted, drawn, made, allocated, Allocates, Resizes}
-use Rattle.model.specs.Promises.{NoRoom, NoRoomFor, NoRoomExactly, SmallerKept}
+use Rattle.model.specs.Calls.{Way, staying, moving, keeping, Outcome, refused, Checked, sized, drawn, allocated, resized, resizedBy}
+use Rattle.model.specs.Promises.{NoRoom, NotOpen, NoRoomFor, NoRoomExactly, SmallerKept}
 use Rattle.model.proofs.Sizes.{per-page-bound}
 use Rattle.model.proofs.lives.Payloads.{in-area}
 use Rattle.model.proofs.lives.LiveFound.{isThere, live-is-there}
 use Rattle.model.proofs.Good.{shape-good}
 use Rattle.model.proofs.rules.OnLayouts.{Done}
-use Rattle.model.proofs.rules.ResizeWays.{Way, nowhere, inPlace, elsewhere, asItIs, noWay, way}
+use Rattle.model.proofs.rules.ResizeWays.{Went, nowhere, inPlace, elsewhere, asItIs, noWay, went, made-none, Shut, by-shut, all-shut, shut-kept}
 use Rattle.model.proofs.rules.Room.{no-room}
-use Rattle.promises.proofs.FoundLive.{found-size}
-use Rattle.promises.proofs.Doing.{comes-to}
+use Rattle.promises.proofs.FoundLive.{is-there, found-size}
+use Rattle.promises.proofs.Cases.{good-size}
 
 module _ {w : ℕ} (wd : Width w) where
-  module _ (b : List ℕ) where
-    -- of an allocation, and of a resize of what was found
-    allocated-none : (o : Option Made) (heap : Made → List ℕ) → (made (shape w) b o heap .refusal ≡ noRoom) ↔ (o ≡ none)
-    allocated-none none heap = ((λ e. refl), (λ e. refl))
-    allocated-none (some m) heap = ((λ e. absurd (omega (arith, e))), (λ e. ap (λ (o : Option Made). made (shape w) b o heap .refusal) e))
+  module _ (b : List ℕ) (n : ℕ) (L : Layout) (h : Here (shape w) b L) (one : 1 ≤ n) where
+    -- there is no room exactly when the rule finds none
+    room : (allocate (shape w) n L ≡ none) ↔ NoRoom (shape w) n L
+    room = no-room (shape w) (endOf (length b)) n L (h .valid) one (λ c. per-page-bound wd c .0)
 
-    resized-none : {a n : ℕ} {L : Layout} → isThere (find (shape w) a L) ≡ 1 → {o : Outcome} {d : Done} → Way (shape w) b a n L o d
-        → (o .refusal ≡ noRoom) ↔ ((stays (shape w) n (find (shape w) a L) L ≡ none) × (allocate (shape w) n L ≡ none) × (capacity (shape w) (find (shape w) a L) < n))
-    resized-none i (nowhere e) = absurd (omega (arith, i, ap isThere e))
-    resized-none i (inPlace _ M s) = ((λ e. absurd (omega (arith, e))), (λ e. absurd (Option·none-ne-some M (sym (e .0) ∙ s))))
-    resized-none i (elsewhere _ s m k) = ((λ e. absurd (omega (arith, e))), (λ e. absurd (Option·none-ne-some m (sym (e .1) ∙ k))))
-    resized-none i (asItIs _ s k c) = ((λ e. absurd (omega (arith, e))), (λ e. absurd (omega (arith, c, e .2))))
-    resized-none i (noWay _ s k c) = ((λ e. (s, k, c)), (λ e. refl))
+    module _ (x : Payload) (i : x ∈ live (shape w) L) where
+      there : isThere (find (shape w) (x .address) L) ≡ 1
+      there = live-is-there (shape w) (shape-good wd) (h .valid) (x .address) x i refl
 
-    -- and of one whose record holds n bytes already
-    resized-smaller : {a n : ℕ} {L : Layout} → isThere (find (shape w) a L) ≡ 1 → n ≤ capacity (shape w) (find (shape w) a L) → {o : Outcome} {d : Done} → Way (shape w) b a n L o d
-        → (o .refusal ≡ 0) × (stays (shape w) n (find (shape w) a L) L ≡ none → allocate (shape w) n L ≡ none → o ≡ granted a b)
-    resized-smaller i c (nowhere e) = absurd (omega (arith, i, ap isThere e))
-    resized-smaller i c (inPlace _ M s) = (refl, λ f g. absurd (Option·none-ne-some M (sym f ∙ s)))
-    resized-smaller i c (elsewhere _ s m k) = (refl, λ f g. absurd (Option·none-ne-some m (sym g ∙ k)))
-    resized-smaller i c (asItIs _ s k _) = (refl, λ f g. refl)
-    resized-smaller i c (noWay _ s k l) = absurd (omega (arith, c, l))
+      size-is : x .size ≡ capacity (shape w) (find (shape w) (x .address) L)
+      size-is = found-size wd (endOf (length b)) L (x .address) (h .valid) x i refl
 
-  -- there is no room exactly when the rule finds none
-  room : (b : List ℕ) (n : ℕ) (L : Layout) → Here (shape w) b L → 1 ≤ n → (allocate (shape w) n L ≡ none) ↔ NoRoom (shape w) n L
-  room b n L h one = no-room (shape w) (endOf (length b)) n L (h .valid) one (λ c. per-page-bound wd c .0)
+      -- a way of a live record is shut exactly when it is not open to it
+      shut-is : (v : Way) → Shut (shape w) b (x .address) n L v ↔ NotOpen (shape w) v x n L
+      shut-is staying = Iff·rfl
+      shut-is moving = room
+      shut-is keeping = ((λ k. omega (arith, k, size-is)), (λ k. omega (arith, k, size-is)))
+
+      all-is : (resized (shape w) b (x .address) n L .refusal ≡ noRoom) ↔ NoRoomFor (shape w) x n L
+      all-is =
+          Iff·trans (all-shut (shape w) b (x .address) n L there)
+          ((λ y. (shut-is staying .0 (y .0), shut-is moving .0 (y .1), shut-is keeping .0 (y .2))), (λ y. (shut-is staying .1 (y .0), shut-is moving .1 (y .1), shut-is keeping .1 (y .2))))
+
+      -- where a live record has room, a resize is granted
+      with-room : {o : Outcome} {d : Done} → Went (shape w) b (x .address) n L o d → (o .refusal ≡ noRoom → ⊥) → o .refusal ≡ 0
+      with-room (nowhere e) k = absurd (is-there (find (shape w) (x .address) L) there e)
+      with-room (inPlace j M s) k = refl
+      with-room (elsewhere j m s) k = refl
+      with-room (asItIs j c) k = refl
+      with-room (noWay j) k = absurd (k refl)
 
   pub smaller-kept : SmallerKept (shape w)
   smaller-kept b n r L l h x i one le c =
       let area = in-area (shape w) (endOf (length b)) L (h .valid) x i in
-      let e = comes-to wd b L l h (x .address) n r one (omega (arith, area .1, le, l .1)) c in
-      let s = found-size wd (endOf (length b)) L (x .address) (h .valid) x i refl in
-      let k = resized-smaller b (live-is-there (shape w) (shape-good wd) (h .valid) (x .address) x i refl) (omega (arith, le, s)) (way (shape w) b (x .address) n L) in
-      (ap (λ (o : Outcome). o .refusal) e ∙ k .0, λ f g. e ∙ k .1 f (room b n L h one .1 g))
+      let e = good-size (shape w) b n (resized (shape w) b (x .address) n L) r (c .sound l L h) one (omega (arith, area .1, le, l .1)) in
+      let not-six : resized (shape w) b (x .address) n L .refusal ≡ noRoom → ⊥ = λ f. omega (arith, all-is b n L h one x i .0 f .2, le) in (
+        ap (λ (o : Outcome). o .refusal) e ∙ with-room b n L h one x i (went (shape w) b (x .address) n L) not-six,
+        (λ s m. e ∙ shut-kept (shape w) b (x .address) n L (there b n L h one x i) s (room b n L h one .1 m) (omega (arith, le, size-is b n L h one x i))),
+      )
 
   pub no-room-exactly : NoRoomExactly (shape w)
-  no-room-exactly b n r L l h one most = (of-allocate, of-resize)
+  no-room-exactly b n r L l h one most = (
+    (λ c. says (allocated (shape w) b n) c (Iff·trans (made-none (shape w) b (allocate (shape w) n L) (λ m. drawn (shape w) (m .layout) b)) (room b n L h one))),
+    (λ x i c. says (resized (shape w) b (x .address) n) c (all-is b n L h one x i)),
+    (λ v x i c. says (resizedBy (shape w) v b (x .address) n) c (Iff·trans (by-shut (shape w) b (x .address) n L (there b n L h one x i) v) (shut-is b n L h one x i v))),
+  )
     where
-      of-allocate : Allocates (shape w) b n r → (r .refusal ≡ noRoom) ↔ NoRoom (shape w) n L
-      of-allocate c =
-          let e : r ≡ allocated (shape w) b n L = rw (le-leb 1 n one, le-leb n (shape w .most) most) at (c .sound l L h) in
-          let k = allocated-none b (allocate (shape w) n L) (λ m. drawn (shape w) (m .layout) b) in
-          ((λ f. room b n L h one .0 (k .0 (sym (ap (λ (o : Outcome). o .refusal) e) ∙ f))), (λ f. ap (λ (o : Outcome). o .refusal) e ∙ k .1 (room b n L h one .1 f)))
-
-      of-resize : (x : Payload) → x ∈ live (shape w) L → Resizes (shape w) b (x .address) n r → (r .refusal ≡ noRoom) ↔ NoRoomFor (shape w) x n L
-      of-resize x i c =
-          let e = comes-to wd b L l h (x .address) n r one most c in
-          let k = resized-none b (live-is-there (shape w) (shape-good wd) (h .valid) (x .address) x i refl) (way (shape w) b (x .address) n L) in
-          let s = found-size wd (endOf (length b)) L (x .address) (h .valid) x i refl in
-          ((λ f. let y = k .0 (sym (ap (λ (o : Outcome). o .refusal) e) ∙ f) in (y .0, room b n L h one .0 (y .1), omega (arith, y .2, s))), (λ f. ap (λ (o : Outcome). o .refusal) e ∙ k .1 (f .0, room b n L h one .1 (f .1), omega (arith, f .2, s))))
+      -- a call of a good size says what its rule says
+      says : {P : Type 0} (rule : Layout → Outcome) → Checked (shape w) b (refused b) (λ M. sized (shape w) n b (rule M)) r → (rule L .refusal ≡ noRoom) ↔ P → (r .refusal ≡ noRoom) ↔ P
+      says rule c k =
+          let e = ap (λ (o : Outcome). o .refusal) (good-size (shape w) b n (rule L) r (c .sound l L h) one most) in
+          ((λ f. k .0 (sym e ∙ f)), (λ f. e ∙ k .1 f))

@@ -14,10 +14,10 @@ use Rattle.model.specs.Rules.{Made, Found, block, thing, nothing, allocate, fin
 use Rattle.model.specs.Reading.{counted, table, lookedUp, ended, step}
 use Rattle.model.specs.Live.{_∈_}
 use Rattle.model.specs.Refusals.{badLength, notOpened, notSound, badSize, notLive, noRoom, alreadyOpened}
-use Rattle.model.specs.Calls.{Outcome, Told, refused, granted, Checked, sized, found, made, allocated, drawn, without, resized}
-use Rattle.model.specs.Promises.{initialising, checking, allocating, freeing, resizing, numbersOf, readingNumbers, lookUpNumbers, Comes, AnswersOnly, ReadingAnswersOnly}
+use Rattle.model.specs.Calls.{Outcome, Told, refused, granted, Checked, sized, found, made, allocated, drawn, without, resized, resizedBy}
+use Rattle.model.specs.Promises.{initialising, checking, allocating, freeing, resizing, resizingBy, numbersOf, readingNumbers, lookUpNumbers, Comes, AnswersOnly, ReadingAnswersOnly}
 use Rattle.model.proofs.rules.OnLayouts.{Done}
-use Rattle.model.proofs.rules.ResizeWays.{Way, nowhere, inPlace, elsewhere, asItIs, noWay, way}
+use Rattle.model.proofs.rules.ResizeWays.{Went, nowhere, inPlace, elsewhere, asItIs, noWay, went, went-by}
 use Rattle.promises.proofs.Cases.{checked-cases, opening-cases}
 
 -- a number that cannot be missing from a list stands in it
@@ -61,12 +61,12 @@ module _ (S : Shape) (b : List ℕ) (l : List ℕ) where
   made-in none heap z h = h
   made-in (some m) heap z h = z
 
-  resized-in : {a n : ℕ} {L : Layout} {o : Outcome} {d : Done} → Way S b a n L o d → 0 ∈ l → notLive ∈ l → noRoom ∈ l → o .refusal ∈ l
-  resized-in (nowhere e) z d h = d
-  resized-in (inPlace i M s) z d h = z
-  resized-in (elsewhere i s m k) z d h = z
-  resized-in (asItIs i s k c) z d h = z
-  resized-in (noWay i s k c) z d h = h
+  went-in : {a n : ℕ} {L : Layout} {o : Outcome} {d : Done} → Went S b a n L o d → 0 ∈ l → notLive ∈ l → noRoom ∈ l → o .refusal ∈ l
+  went-in (nowhere e) z d h = d
+  went-in (inPlace i M s) z d h = z
+  went-in (elsewhere i m k) z d h = z
+  went-in (asItIs i c) z d h = z
+  went-in (noWay i) z d h = h
 
   -- what is equal to something with a number in the list has one
   same-in : {A : Type 0} (number : A → ℕ) {r o : A} → r ≡ o → number o ∈ l → number r ∈ l
@@ -85,6 +85,16 @@ module _ (S : Shape) (b : List ℕ) (l : List ℕ) where
   told-in : {A : Type 0} (none-with : A) → badLength ∈ l → notOpened ∈ l → notSound ∈ l
       → (rule : Layout → Told A) → ((L : Layout) → rule L .refusal ∈ l) → (r : Told A) → Checked S b (λ k. record { refusal = k; answer = none-with }) rule r → r .refusal ∈ l
   told-in none-with = checked-in (λ o. o .refusal) (λ k. record { refusal = k; answer = none-with }) (λ k. refl)
+
+-- a resize of any form
+resizing-only : (S : Shape) (b : List ℕ) (a n : ℕ) (rule : Layout → Outcome) {on : Layout → Done} → ((L : Layout) → Went S b a n L (rule L) (on L))
+    → (r : Outcome) → Checked S b (refused b) (λ L. sized S n b (rule L)) r → r .refusal ∈ numbersOf (resizing a n)
+unfolding numbersOf isIn
+resizing-only S b a n rule x r c =
+    let l = numbersOf (resizing a n) in
+    refused-in S b l (stands badLength l refl) (stands notOpened l refl) (stands notSound l refl) (λ L. sized S n b (rule L))
+    (λ L. sized-in S b l n (rule L) (stands badSize l refl) (went-in S b l (x L) (stands 0 l refl) (stands notLive l refl) (stands noRoom l refl)))
+    r c
 
 pub answers-only : (S : Shape) → AnswersOnly S
 unfolding Comes numbersOf isIn
@@ -106,11 +116,8 @@ answers-only S b (freeing a) r c =
     refused-in S b l (stands badLength l refl) (stands notOpened l refl) (stands notSound l refl) (λ L. found S (find S a L) (refused b notLive) (granted 0 (drawn S (without S a L) b)))
     (λ L. found-in S b l (λ (o : Outcome). o .refusal) (find S a L) (refused b notLive) (granted 0 (drawn S (without S a L) b)) (stands notLive l refl) (stands 0 l refl))
     r c
-answers-only S b (resizing a n) r c =
-    let l = numbersOf (resizing a n) in
-    refused-in S b l (stands badLength l refl) (stands notOpened l refl) (stands notSound l refl) (λ L. sized S n b (resized S b a n L))
-    (λ L. sized-in S b l n (resized S b a n L) (stands badSize l refl) (resized-in S b l (way S b a n L) (stands 0 l refl) (stands notLive l refl) (stands noRoom l refl)))
-    r c
+answers-only S b (resizing a n) r c = resizing-only S b a n (resized S b a n) (went S b a n) r c
+answers-only S b (resizingBy v a n) r c = resizing-only S b a n (resizedBy S v b a n) (λ L. went-by S b a n L v) r c
 
 pub reading-answers-only : (S : Shape) → ReadingAnswersOnly S
 unfolding isIn

@@ -5,6 +5,7 @@ use Rattle.model.specs.Shape.{shape, wide, hand}
 use Rattle.model.specs.Promises.{Promised}
 use Rattle.model.proofs.Sizes.{eight, four}
 use Rattle.model.proofs.lives.Payloads.{in-area, no-overlap, no-word-inside}
+use Rattle.model.proofs.rules.ResizeWays.{split-gives}
 use Rattle.sound.proofs.OneLayout.{one-layout}
 use Rattle.promises.proofs.Determined.{determined, reading-determined}
 use Rattle.promises.proofs.Refused.{refused-untouched}
@@ -15,7 +16,8 @@ use Rattle.promises.proofs.StaysSound.{stays-sound}
 use Rattle.promises.proofs.Opened.{opens-sound}
 use Rattle.promises.proofs.AllocateKept.{allocate-keeps}
 use Rattle.promises.proofs.FreeKept.{free-keeps}
-use Rattle.promises.proofs.ResizeKept.{resize-keeps}
+use Rattle.promises.proofs.ResizeKept.{resize-keeps, each-way-keeps}
+use Rattle.promises.proofs.Places.{in-place-stays, move-moves}
 use Rattle.promises.proofs.NoRoomExact.{no-room-exactly, smaller-kept}
 use Rattle.promises.proofs.Longer.{longer-agrees}
 
@@ -39,6 +41,10 @@ promised {w} wd =
       allocate-keeps = allocate-keeps wd;
       free-keeps = free-keeps wd;
       resize-keeps = resize-keeps wd;
+      each-way-keeps = each-way-keeps wd;
+      in-place-stays = in-place-stays (shape w);
+      move-moves = move-moves wd;
+      split-gives = split-gives (shape w);
       no-room-exactly = no-room-exactly wd;
       smaller-kept = smaller-kept wd;
       longer-agrees = longer-agrees wd;

@@ -9,10 +9,10 @@ use Rattle.model.specs.Shape.{Shape}
 use Rattle.model.specs.Layout.{Layout}
 use Rattle.model.specs.Rules.{Made, Found, block, thing, nothing, allocate, find}
 use Rattle.model.specs.Refusals.{badLength, notOpened, notSound, badSize, notLive, alreadyOpened}
-use Rattle.model.specs.Calls.{Outcome, refused, granted, Checked, sized, found, made, allocated, drawn, without, movedBytes, resized, Initialises}
-use Rattle.model.specs.Promises.{initialising, checking, allocating, freeing, resizing, Comes, RefusedUntouched}
+use Rattle.model.specs.Calls.{Outcome, refused, granted, Checked, sized, found, made, allocated, drawn, without, movedBytes, resized, resizedBy, Initialises}
+use Rattle.model.specs.Promises.{initialising, checking, allocating, freeing, resizing, resizingBy, Comes, RefusedUntouched}
 use Rattle.model.proofs.rules.OnLayouts.{Done}
-use Rattle.model.proofs.rules.ResizeWays.{Way, nowhere, inPlace, elsewhere, asItIs, noWay, way}
+use Rattle.model.proofs.rules.ResizeWays.{Went, nowhere, inPlace, elsewhere, asItIs, noWay, went, went-by}
 use Rattle.promises.proofs.Stable.{outcomes}
 use Rattle.promises.proofs.Cases.{checked-cases, opening-cases}
 
@@ -47,17 +47,21 @@ module _ (b : List ℕ) where
     made-plain none heap = λ n. refl
     made-plain (some m) heap = as-granted (m .at) (heap m)
 
-    resized-plain : (a n : ℕ) (L : Layout) {o : Outcome} {d : Done} → Way S b a n L o d → Plainly o
-    resized-plain a n L (nowhere e) = λ n. refl
-    resized-plain a n L (inPlace i M s) = as-granted a (drawn S M b)
-    resized-plain a n L (elsewhere i s m k) = as-granted (m .at) (movedBytes S b a n L m)
-    resized-plain a n L (asItIs i s k c) = as-granted a b
-    resized-plain a n L (noWay i s k c) = λ n. refl
+    went-plain : (a n : ℕ) (L : Layout) {o : Outcome} {d : Done} → Went S b a n L o d → Plainly o
+    went-plain a n L (nowhere e) = λ n. refl
+    went-plain a n L (inPlace i M s) = as-granted a (drawn S M b)
+    went-plain a n L (elsewhere i m k) = as-granted (m .at) (movedBytes S b a n L m)
+    went-plain a n L (asItIs i c) = as-granted a b
+    went-plain a n L (noWay i) = λ n. refl
 
     checked-plain : (rule : Layout → Outcome) → ((L : Layout) → Plainly (rule L)) → (r : Outcome) → Checked S b (refused b) rule r → Plainly r
     checked-plain rule p r c n =
         outcomes r (refused b (r .refusal))
         (checked-cases S b (λ m. as-refused r badLength (c .one m) n) (λ l m. as-refused r notOpened (c .two l m) n) (λ l o m. as-refused r notSound (c .three l o m) n) (λ l L h. as-same r (rule L) (c .sound l L h) (p L) n))
+
+    -- a resize of any form
+    resizing-plain : (a n : ℕ) (rule : Layout → Outcome) {on : Layout → Done} → ((L : Layout) → Went S b a n L (rule L) (on L)) → (r : Outcome) → Checked S b (refused b) (λ L. sized S n b (rule L)) r → Plainly r
+    resizing-plain a n rule x r c = checked-plain (λ L. sized S n b (rule L)) (λ L. sized-plain n (rule L) (went-plain a n L (x L))) r c
 
     opened-plain : (r : Outcome) → Initialises S b r → Plainly r
     opened-plain r c n =
@@ -73,5 +77,5 @@ refused-untouched S b (allocating n) r c =
 refused-untouched S b (freeing a) r c =
     checked-plain b S (λ L. found S (find S a L) (refused b notLive) (granted 0 (drawn S (without S a L) b)))
     (λ L. found-plain b S (find S a L) (granted 0 (drawn S (without S a L) b)) (as-granted b 0 (drawn S (without S a L) b))) r c
-refused-untouched S b (resizing a n) r c =
-    checked-plain b S (λ L. sized S n b (resized S b a n L)) (λ L. sized-plain b S n (resized S b a n L) (resized-plain b S a n L (way S b a n L))) r c
+refused-untouched S b (resizing a n) r c = resizing-plain b S a n (resized S b a n) (went S b a n) r c
+refused-untouched S b (resizingBy v a n) r c = resizing-plain b S a n (resizedBy S v b a n) (λ L. went-by S b a n L v) r c

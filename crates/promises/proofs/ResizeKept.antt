@@ -4,28 +4,27 @@ use mathlib.Core.Path.{_≡_, refl, sym, ap, subst, _∙_}
 use mathlib.Core.List.{List}
 use mathlib.Core.Logic.{inl}
 use native.Mathlib.Omega.{arith}
-use native.Mathlib.Decide.{decLe}
 use native.Mathlib.Nat.{min-le-left, min-le-right}
 use lib.ListN.{length, take, drop}
-use borrow.Author.Tests.{le-leb, lt-leb}
 use Rattle.words.specs.Width.{Width}
 use Rattle.model.specs.Shape.{shape, endOf}
 use Rattle.model.specs.Layout.{Layout}
 use Rattle.model.specs.Sound.{Here}
 use Rattle.model.specs.Rules.{find, capacity}
-use Rattle.model.specs.Refusals.{badSize}
-use Rattle.model.specs.Calls.{Outcome, refused, granted, Lent, drawn, Resizes}
-use Rattle.model.specs.Promises.{resizing, ResizeKept, Comes, ResizeKeeps}
+use Rattle.model.specs.Calls.{Way, Outcome, granted, Lent, drawn, sized}
+use Rattle.model.specs.Promises.{resizing, resizingBy, ResizeKept, Comes, ResizeKeeps}
 use Rattle.model.proofs.Good.{shape-good}
 use Rattle.model.proofs.lives.Payloads.{content-kept}
 use Rattle.sound.proofs.OneLayout.{one-layout}
 use Rattle.model.proofs.lives.StayLives.{Stayed, stays-stayed}
-use Rattle.model.proofs.rules.OnLayouts.{Done, resizedOn, doing}
-use Rattle.model.proofs.rules.ResizeWays.{Way, nowhere, inPlace, elsewhere, asItIs, noWay, way}
+use Rattle.model.proofs.rules.OnLayouts.{Done}
+use Rattle.model.proofs.rules.ResizeWays.{Went, nowhere, inPlace, elsewhere, asItIs, noWay, went, went-by}
+use Rattle.promises.proofs.Cases.{granted-size}
+use Rattle.promises.proofs.Answers.{does-same}
 use Rattle.promises.proofs.FoundLive.{found-size}
 use Rattle.promises.proofs.Parts.{take-take}
 use Rattle.promises.proofs.Moved.{moved-kept}
-use Rattle.promises.proofs.Doing.{comes-to, does}
+use Rattle.promises.proofs.Doing.{went-does}
 
 module _ {w : ℕ} (wd : Width w) where
   -- in place
@@ -56,33 +55,26 @@ module _ {w : ℕ} (wd : Width w) where
       (λ o. absurd (o refl)),
     )
 
-    -- each way that is granted
-    way-kept : 1 ≤ n → {o : Outcome} {d : Done} → Way (shape w) b a n L o d → o .refusal ≡ 0 → ResizeKept (shape w) b a n L o (d .layout)
-    way-kept one (nowhere e) g = absurd (omega (arith, g))
-    way-kept one (inPlace i M s) g = stayed-kept b a n L M (stays-stayed (shape w) (shape-good wd) n a one (h .valid) M s)
-    way-kept one (elsewhere i s m k) g = moved-kept wd b L l h a n one m k i
-    way-kept one (asItIs i s k c) g = unmoved-kept c
-    way-kept one (noWay i s k c) g = absurd (omega (arith, g))
+    -- wherever a granted resize led
+    went-kept : 1 ≤ n → {o : Outcome} {d : Done} → Went (shape w) b a n L o d → o .refusal ≡ 0 → ResizeKept (shape w) b a n L o (d .layout)
+    went-kept one (nowhere e) g = absurd (omega (arith, g))
+    went-kept one (inPlace i M s) g = stayed-kept b a n L M (stays-stayed (shape w) (shape-good wd) n a one (h .valid) M s)
+    went-kept one (elsewhere i m k) g = moved-kept wd b L l h a n one m k i
+    went-kept one (asItIs i c) g = unmoved-kept c
+    went-kept one (noWay i) g = absurd (omega (arith, g))
 
-    -- none is granted for a bad size
-    resize-kept : (r : Outcome) → Resizes (shape w) b a n r → r .refusal ≡ 0 → ResizeKept (shape w) b a n L r (doing (shape w) (resizing a n) L .layout)
-    unfolding doing
-    resize-kept r c g = go (decLe 1 n) (decLe n (shape w .most))
-      where
-        not-refused : r ≡ refused b badSize → ⊥
-        not-refused e = omega (arith, g, ap (λ (x : Outcome). x .refusal) e)
+    -- so what any form of resize grants
+    resizing-kept : {o : Outcome} {d : Done} → Went (shape w) b a n L o d → (r : Outcome) (M : Layout) → r ≡ sized (shape w) n b o → r .refusal ≡ 0 → Here (shape w) (r .heap) M → ResizeKept (shape w) b a n L r M
+    resizing-kept {o} {d} x r M e g then =
+        let s = granted-size (shape w) b n o r e g in
+        let left = does-same wd b L l h r o d (s .1) (went-does wd b L l h (s .0) x) in
+        subst (λ (N : Layout). ResizeKept (shape w) b a n L r N) (one-layout wd (r .heap) (d .layout) M (left .here) then)
+        (subst (λ (y : Outcome). ResizeKept (shape w) b a n L y (d .layout)) (sym (s .1)) (went-kept (s .0) x (sym (ap (λ (y : Outcome). y .refusal) (s .1)) ∙ g)))
 
-        go : Dec (1 ≤ n) → Dec (n ≤ (shape w .most)) → ResizeKept (shape w) b a n L r (doing (shape w) (resizing a n) L .layout)
-        go (no i) j = absurd (not-refused (rw (lt-leb 1 n (omega arith)) at (c .sound l L h)))
-        go (yes i) (no j) = absurd (not-refused (rw (le-leb 1 n i, lt-leb n (shape w .most) (omega arith)) at (c .sound l L h)))
-        go (yes i) (yes j) =
-            let e = comes-to wd b L l h a n r i j c in
-            rw (le-leb 1 n i, le-leb n (shape w .most) j)
-            (subst (λ (x : Outcome). ResizeKept (shape w) b a n L x (resizedOn (shape w) a n L .layout)) (sym e) (way-kept i (way (shape w) b a n L) (sym (ap (λ (x : Outcome). x .refusal) e) ∙ g)))
-
-  pub resize-keeps : ResizeKeeps (shape w)
+  pub resize-keeps : ResizeKeeps (shape w) resizing
   unfolding Comes
-  resize-keeps b a n r L M g =
-      let left = does wd b L (g .lent) (g .here) (resizing a n) r (g .comes) in
-      subst (λ (N : Layout). ResizeKept (shape w) b a n L r N) (one-layout wd (r .heap) (doing (shape w) (resizing a n) L .layout) M (left .here) (g .then))
-      (resize-kept b a n L (g .lent) (g .here) r (g .comes) (g .granted))
+  resize-keeps b a n r L M g = resizing-kept b a n L (g .lent) (g .here) (went (shape w) b a n L) r M (g .comes .sound (g .lent) L (g .here)) (g .granted) (g .then)
+
+  pub each-way-keeps : (v : Way) → ResizeKeeps (shape w) (resizingBy v)
+  unfolding Comes
+  each-way-keeps v b a n r L M g = resizing-kept b a n L (g .lent) (g .here) (went-by (shape w) b a n L v) r M (g .comes .sound (g .lent) L (g .here)) (g .granted) (g .then)

@@ -11,8 +11,8 @@ use Rattle.model.specs.Sound.{Here, Sound}
 use Rattle.model.specs.Rules.{find, stays}
 use Rattle.model.specs.Live.{_∈_, Payload, live}
 use Rattle.model.specs.Walking.{column}
-use Rattle.model.specs.Calls.{Lent, granted, Steps, Counts}
-use Rattle.model.specs.Promises.{Call, initialising, checking, allocating, freeing, resizing, numbersOf, Comes, AllocateKept, FreeKept, ResizeKept, NoRoom, NoRoomFor}
+use Rattle.model.specs.Calls.{Way, staying, moving, Lent, granted, Steps, Counts}
+use Rattle.model.specs.Promises.{Call, initialising, checking, allocating, freeing, resizing, resizingBy, numbersOf, Comes, AllocateKept, FreeKept, ResizeKept, NoRoom, NotOpen, NoRoomFor}
 use Rattle.model.specs.declared.Address.{Address}
 use Rattle.heap.specs.declared.Answer.{Answer}
 use Rattle.heap.specs.declared.Answer.the-variants.{Granted, Refused}
@@ -61,10 +61,16 @@ pub record AnswersPromised : Type 0 where
       → FreeKept wide b a L (granted (x .0) c) L′
   pub resize-keeps : (b : List ℕ) (a n : ℕ) (x : Address) (c : List ℕ) (L L′ : Layout) → Lent wide b → Here wide b L → MayAnswer b (resizing a n) (Granted x) c → Here wide c L′
       → ResizeKept wide b a n L (granted (x .0) c) L′
-  -- 6 exactly where the rule finds nothing, and 5 exactly where nothing is live
+  pub each-way-keeps : (v : Way) (b : List ℕ) (a n : ℕ) (x : Address) (c : List ℕ) (L L′ : Layout) → Lent wide b → Here wide b L → MayAnswer b (resizingBy v a n) (Granted x) c → Here wide c L′
+      → ResizeKept wide b a n L (granted (x .0) c) L′
+  -- in place gives the record's own address, a move never does
+  pub in-place-stays : (b : List ℕ) (a n : ℕ) (x : Address) (c : List ℕ) → MayAnswer b (resizingBy staying a n) (Granted x) c → x .0 ≡ a
+  pub move-moves : (b : List ℕ) (a n : ℕ) (x : Address) (c : List ℕ) → MayAnswer b (resizingBy moving a n) (Granted x) c → x .0 ≡ a → ⊥
+  -- 6 exactly where the rule finds nothing, from one way of resize where that way is not open; and 5 exactly where nothing is live
   pub no-room-exactly : (b : List ℕ) (n : ℕ) (r : Answer) (c : List ℕ) (L : Layout) → Lent wide b → Here wide b L → 1 ≤ n → n ≤ wide .most
       → (MayAnswer b (allocating n) r c → (r ≡ Refused why.NoRoom) ↔ NoRoom wide n L)
       × ((x : Payload) → x ∈ live wide L → MayAnswer b (resizing (x .address) n) r c → (r ≡ Refused why.NoRoom) ↔ NoRoomFor wide x n L)
+      × ((v : Way) (x : Payload) → x ∈ live wide L → MayAnswer b (resizingBy v (x .address) n) r c → (r ≡ Refused why.NoRoom) ↔ NotOpen wide v x n L)
   pub not-live-exactly : (b : List ℕ) (a : ℕ) (r : Answer) (c : List ℕ) (L : Layout) → Lent wide b → Here wide b L
       → MayAnswer b (freeing a) r c → (r ≡ Refused why.NotLive) ↔ ((x : Payload) → x ∈ live wide L → x .address ≡ a → ⊥)
   -- a size that the record x holds already is never refused: where x can neither stay nor move, its address is answered and no byte changes

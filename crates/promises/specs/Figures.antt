@@ -8,8 +8,8 @@ use Rattle.words.specs.Word.{Bytes}
 use Rattle.model.specs.Picture.{Word, Shows}
 use Rattle.model.specs.Shape.{wide}
 use Rattle.model.specs.Refusals.{noRoom}
-use Rattle.model.specs.Calls.{Outcome, Opened, Initialises, Allocates}
-use Rattle.model.specs.Promises.{Call, initialising, allocating, freeing, resizing, Comes, Reply}
+use Rattle.model.specs.Calls.{staying, moving, Outcome, Opened, Initialises, Allocates}
+use Rattle.model.specs.Promises.{Call, initialising, allocating, freeing, resizing, resizingBy, Comes, Reply}
 
 -- an answer: a refusal and an address; a word: a position and its value
 abbrev pub says : ℕ → ℕ → Reply wide
@@ -71,6 +71,14 @@ table =
     -- (i) N 1,000, allocate 300, resize 320 to 20: there is no room for a page, so nothing changes; to 900: 6
     ∷ unchanged 1000 (allocating 300 ∷ resizing 320 20 ∷ []) (says 0 0 ∷ says 0 320 ∷ says 0 320 ∷ []) (word 312 322 ∷ word 24 632 ∷ word 632 368 ∷ [])
     ∷ unchanged 1000 (allocating 300 ∷ resizing 320 900 ∷ []) (says 0 0 ∷ says 0 320 ∷ says 6 0 ∷ []) (word 312 322 ∷ word 24 632 ∷ word 632 368 ∷ [])
+    -- (vii) H, allocate 16: address 328, header 7; class 1 head 296, the second item. In place to 9: nothing changes; to 17: 6
+    ∷ unchanged 10000 (allocating 16 ∷ resizingBy staying 328 9 ∷ []) (says 0 0 ∷ says 0 328 ∷ says 0 328 ∷ []) (word 320 7 ∷ word 56 296 ∷ word 344 5125 ∷ [])
+    ∷ unchanged 10000 (allocating 16 ∷ resizingBy staying 328 17 ∷ []) (says 0 0 ∷ says 0 328 ∷ says 6 0 ∷ []) (word 320 7 ∷ word 56 296 ∷ word 344 5125 ∷ [])
+    -- instead move 328 to 16: the same class moves too, to address 352, header 7; class 1 head 272, the first item, its header 5,125
+    ∷ figure 10000 (allocating 16 ∷ resizingBy moving 328 16 ∷ []) (says 0 0 ∷ says 0 328 ∷ says 0 352 ∷ []) (word 344 7 ∷ word 56 272 ∷ word 320 5125 ∷ [])
+    -- N 1,000, allocate 300, in place 320 to 20: 6, though resize keeps it; move 320 to 20: 6
+    ∷ unchanged 1000 (allocating 300 ∷ resizingBy staying 320 20 ∷ []) (says 0 0 ∷ says 0 320 ∷ says 6 0 ∷ []) (word 312 322 ∷ word 24 632 ∷ word 632 368 ∷ [])
+    ∷ unchanged 1000 (allocating 300 ∷ resizingBy moving 320 20 ∷ []) (says 0 0 ∷ says 0 320 ∷ says 6 0 ∷ []) (word 312 322 ∷ word 24 632 ∷ word 632 368 ∷ [])
     ∷ []
 
 -- outcomes that the calls' contracts allow, one after the other, from bytes b on; the bytes then, and before the last; and what was answered

@@ -10,7 +10,7 @@ use Rattle.model.specs.Shape.{shape, endOf, start}
 use Rattle.model.specs.Layout.{Layout}
 use Rattle.model.specs.Sound.{Here}
 use Rattle.model.specs.Rules.{Spot, Found, freed}
-use Rattle.model.specs.Calls.{drawn}
+use Rattle.model.specs.Calls.{moving, drawn}
 use Rattle.model.specs.inner.Links.{backOf}
 use Rattle.model.proofs.Good.{shape-good}
 use Rattle.model.proofs.walks.Finding.{block-found}
@@ -23,7 +23,7 @@ use Rattle.resizing.specs.declared.resize.Resized.the-variants as to
 use Rattle.engine.specs.Allocate.{Asked}
 use Rattle.find.specs.Find.{BlockFound}
 use Rattle.releasing.specs.Release.{BlockLive, Released}
-use Rattle.resizing.specs.Move.{Carried, BlockLiveAt, MovesOrKeeps}
+use Rattle.resizing.specs.Move.{Carried, BlockLiveAt, ByWay}
 use Rattle.resizing.specs.Mend.{Mendable, Mended}
 use Rattle.resizing.proofs.ResizeLaws.{chosen, carried-in, moved-to, block-holds}
 use Rattle.resizing.proofs.MendLaws.{found-stands, stands-found, read-before}
@@ -59,7 +59,7 @@ module _ {w : ℕ} {b : List ℕ} {a n : ℕ} {x : VariableBlock} (i : BlockLive
         let h = i .ready .sound .here in
         record { width = i .ready .width; layout = after L h; here = here-after L h; short = rw l (i .ready .short); address = a; spot = again L h .0; found = again L h .1 }
 
-    pub given-back : (d : List ℕ) → Released w c y d → MovesOrKeeps w b a n (to.To new) d
+    pub given-back : (d : List ℕ) → Released w c y d → ByWay w moving b a n (to.To new) d
     unfolding after
     given-back d z =
         moved-to g (block-holds i) s new e d (λ L h.

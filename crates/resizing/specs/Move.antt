@@ -1,10 +1,10 @@
--- What moving a record to another place asks and promises.
+-- What resizing a record asks and promises, where it stands or by a move to another place.
 use Prim.Native.Nat.{ℕ, _≤_, min}
 use mathlib.Core.Path.{_≡_}
 use mathlib.Core.Bool.{cond}
 use mathlib.Core.List.{List}
 use mathlib.Core.Option.{Option, none, some}
-use lib.Dec.{leb}
+use lib.Dec.{eqb, leb}
 use Rattle.words.specs.Copy.{copied}
 use Rattle.model.specs.declared.Address.{Address}
 use Rattle.model.specs.Shape.{shape, offsetOf, index}
@@ -12,7 +12,7 @@ use Rattle.model.specs.Layout.{Layout}
 use Rattle.model.specs.Sound.{Here}
 use Rattle.model.specs.Rules.{Spot, Made, thing, nothing, find, allocate, capacity}
 use Rattle.model.specs.Refusals.{notLive, noRoom}
-use Rattle.model.specs.Calls.{Outcome, refused, granted, orNext, drawn, moved, kept, resized}
+use Rattle.model.specs.Calls.{Way, Outcome, refused, granted, drawn, resizedBy}
 use Rattle.find.specs.declared.VariableBlock.{VariableBlock}
 use Rattle.engine.specs.declared.allocate.Taken.{Taken}
 use Rattle.resizing.specs.declared.resize.Resized.{Resized}
@@ -56,14 +56,10 @@ outcomeOf (To a) c = granted (a .0) c
 outcomeOf NotLive c = refused c notLive
 outcomeOf NoRoom c = refused c noRoom
 
--- where there is no room elsewhere: the record as it is, if what it has is no less than what is wanted
+-- what has so many bytes, kept for n; nothing that is live has none
 abbrev pub keptAs : Address → ℕ → ℕ → Resized
-keptAs a has wanted = cond (leb wanted has) (To a) NoRoom
+keptAs a has n = cond (eqb has 0) NotLive (cond (leb n has) (To a) NoRoom)
 
--- the record moved, or else kept
-pub record MovesOrKeeps (w : ℕ) (b : List ℕ) (a n : ℕ) (r : Resized) (c : List ℕ) : Type 0 where
-  pub is : (L : Layout) → Here (shape w) b L → outcomeOf r c ≡ orNext (moved (shape w) b a n L) (kept (shape w) b a n L)
-
--- the record resized by the rule
-pub record ByRule (w : ℕ) (b : List ℕ) (a n : ℕ) (r : Resized) (c : List ℕ) : Type 0 where
-  pub is : (L : Layout) → Here (shape w) b L → outcomeOf r c ≡ resized (shape w) b a n L
+-- the record at a resized by one way of resize
+pub record ByWay (w : ℕ) (v : Way) (b : List ℕ) (a n : ℕ) (r : Resized) (c : List ℕ) : Type 0 where
+  pub is : (L : Layout) → Here (shape w) b L → outcomeOf r c ≡ resizedBy (shape w) v b a n L

@@ -1,10 +1,11 @@
-// Resize, once the heap is known to be sound and the size to be good: in place, or else by a move, or else as it is.
+// The ways of resize, once the heap is known to be sound and the size to be good: where the record stands, by a move, as it is.
 use crate::carry::carry;
 use crate::mend::mend;
 use engine::allocate::Taken;
 use find::Live;
 use find::VariableBlock;
 use find::find;
+use holding::capacity;
 use items::give;
 use links::back_at;
 use model::Address;
@@ -13,14 +14,14 @@ use model::block_capacity;
 use model::class_of;
 use model::item_capacity;
 use model::largest_item;
-use model::need_of;
 use releasing::release;
 use reshaping::reshape;
 use words::word;
 ghost use mathlib.Core.Path.{_≡_};
+ghost use Rattle.model.specs.Calls.{staying, moving, keeping};
 ghost use Rattle.engine.specs.Allocate.{Asked};
 ghost use Rattle.engine.specs.Ready.{Ready};
-ghost use Rattle.resizing.specs.Move.{ItemLiveAt, BlockLiveAt, keptAs, MovesOrKeeps, ByRule};
+ghost use Rattle.resizing.specs.Move.{ItemLiveAt, BlockLiveAt, keptAs, ByWay};
 
 // Where a resized record stands; or that nothing is live there; or that there is no room.
 pub enum Resized {
@@ -29,29 +30,56 @@ pub enum Resized {
     NoRoom,
 }
 
-// There is no room elsewhere: the record stays as it is, if what it has is no less than what is wanted.
-fn kept(a: Address, has: usize, wanted: usize) -> Resized
-    ensures { λ r. ⌜ r ≡ keptAs a has wanted ⌝ }
+// The item of class c with its header at q, where it stands: it can stay in its own class only.
+fn stay_item(w: usize, h: &[u8], a: Address, q: Position, c: usize, n: usize) -> Resized
+    requires { ⌜ ItemLiveAt w (now h) (a .0) (q .0) c ⌝ }
+    requires { ⌜ Asked w n ⌝ }
+    ensures { λ r. ⌜ ByWay w staying (now (h .entry)) (a .0) n r (now (h .entry)) ⌝ }
 {
-    if wanted <= has {
+    if class_of(n) == c {
         return Resized::To(a);
     }
     Resized::NoRoom
 }
 
-// The item of class c with its header at q.
-fn resize_item(w: usize, h: &mut [u8], a: Address, q: Position, c: usize, n: usize) -> Resized
-    requires { ⌜ ItemLiveAt w (now h) (a .0) (q .0) c ⌝ }
+// The variable block x, where it stands.
+fn stay_block(w: usize, h: &mut [u8], a: Address, x: VariableBlock, n: usize) -> Resized
+    requires { ⌜ BlockLiveAt w (now h) (a .0) x ⌝ }
     requires { ⌜ Asked w n ⌝ }
-    ensures { λ r. ⌜ ByRule w (now (h .entry)) (a .0) n r (now (h .exit)) ⌝ }
+    ensures { λ r. ⌜ ByWay w staying (now (h .entry)) (a .0) n r (now (h .exit)) ⌝ }
 {
-    if class_of(n) == c {
+    if n <= largest_item(w) {
+        return Resized::NoRoom;
+    }
+    if reshape(w, h, x, n) {
         return Resized::To(a);
     }
-    let k = item_capacity(w, c);
-    let t = carry(w, h, a, k, n);
+    Resized::NoRoom
+}
+
+// Resizes what is live at a to n bytes where it stands.
+pub fn stay(w: usize, h: &mut [u8], a: Address, n: usize) -> Resized
+    requires { ⌜ Ready w (now h) ⌝ }
+    requires { ⌜ Asked w n ⌝ }
+    ensures { λ r. ⌜ ByWay w staying (now (h .entry)) (a .0) n r (now (h .exit)) ⌝ }
+{
+    let x = find(w, h, a);
+    match x {
+        Live::Nothing => Resized::NotLive,
+        Live::Item(q, c) => stay_item(w, h, a, q, c, n),
+        Live::Variable(b) => stay_block(w, h, a, b, n),
+    }
+}
+
+// The item of class c with its header at q, by a move: the new one is taken first, so it is another even in the same class.
+fn move_item(w: usize, h: &mut [u8], a: Address, q: Position, c: usize, n: usize) -> Resized
+    requires { ⌜ ItemLiveAt w (now h) (a .0) (q .0) c ⌝ }
+    requires { ⌜ Asked w n ⌝ }
+    ensures { λ r. ⌜ ByWay w moving (now (h .entry)) (a .0) n r (now (h .exit)) ⌝ }
+{
+    let t = carry(w, h, a, item_capacity(w, c), n);
     match t {
-        Taken::NoRoom => kept(a, k, n),
+        Taken::NoRoom => Resized::NoRoom,
         Taken::At(new) => {
             give(w, h, q, c);
             Resized::To(new)
@@ -59,17 +87,16 @@ fn resize_item(w: usize, h: &mut [u8], a: Address, q: Position, c: usize, n: usi
     }
 }
 
-// The variable block x by a move, or else as it is. The free block before it is read first: the allocation may take the one that stands between.
-// It is kept by its size against the need: its capacity, too, would take a register from the move.
+// The variable block x by a move. The free block before it is read first: the allocation may take the one that stands between.
 fn move_block(w: usize, h: &mut [u8], a: Address, x: VariableBlock, n: usize) -> Resized
     requires { ⌜ BlockLiveAt w (now h) (a .0) x ⌝ }
     requires { ⌜ Asked w n ⌝ }
-    ensures { λ r. ⌜ MovesOrKeeps w (now (h .entry)) (a .0) n r (now (h .exit)) ⌝ }
+    ensures { λ r. ⌜ ByWay w moving (now (h .entry)) (a .0) n r (now (h .exit)) ⌝ }
 {
     let before = Position(word(w, h, back_at(w, h, x.prev).0));
     let t = carry(w, h, a, block_capacity(w, x.size), n);
     match t {
-        Taken::NoRoom => kept(a, x.size, need_of(w, n)),
+        Taken::NoRoom => Resized::NoRoom,
         Taken::At(new) => {
             let y = mend(w, h, x, before);
             release(w, h, y);
@@ -78,31 +105,37 @@ fn move_block(w: usize, h: &mut [u8], a: Address, x: VariableBlock, n: usize) ->
     }
 }
 
-// The variable block x.
-fn resize_block(w: usize, h: &mut [u8], a: Address, x: VariableBlock, n: usize) -> Resized
-    requires { ⌜ BlockLiveAt w (now h) (a .0) x ⌝ }
-    requires { ⌜ Asked w n ⌝ }
-    ensures { λ r. ⌜ ByRule w (now (h .entry)) (a .0) n r (now (h .exit)) ⌝ }
-{
-    if n <= largest_item(w) {
-        return move_block(w, h, a, x, n);
-    }
-    if reshape(w, h, x, n) {
-        return Resized::To(a);
-    }
-    move_block(w, h, a, x, n)
-}
-
-// Resizes what is live at a to n bytes.
-pub fn resize(w: usize, h: &mut [u8], a: Address, n: usize) -> Resized
+// Moves what is live at a to n bytes elsewhere.
+pub fn relocate(w: usize, h: &mut [u8], a: Address, n: usize) -> Resized
     requires { ⌜ Ready w (now h) ⌝ }
     requires { ⌜ Asked w n ⌝ }
-    ensures { λ r. ⌜ ByRule w (now (h .entry)) (a .0) n r (now (h .exit)) ⌝ }
+    ensures { λ r. ⌜ ByWay w moving (now (h .entry)) (a .0) n r (now (h .exit)) ⌝ }
 {
     let x = find(w, h, a);
     match x {
         Live::Nothing => Resized::NotLive,
-        Live::Item(q, c) => resize_item(w, h, a, q, c, n),
-        Live::Variable(b) => resize_block(w, h, a, b, n),
+        Live::Item(q, c) => move_item(w, h, a, q, c, n),
+        Live::Variable(b) => move_block(w, h, a, b, n),
     }
+}
+
+// What has so many bytes stays as it is, if these are n or more; nothing that is live has none.
+fn kept(a: Address, has: usize, n: usize) -> Resized
+    ensures { λ r. ⌜ r ≡ keptAs a has n ⌝ }
+{
+    if has == 0 {
+        return Resized::NotLive;
+    }
+    if n <= has {
+        return Resized::To(a);
+    }
+    Resized::NoRoom
+}
+
+// Whether what is live at a holds n bytes as it is.
+pub fn keep(w: usize, h: &[u8], a: Address, n: usize) -> Resized
+    requires { ⌜ Ready w (now h) ⌝ }
+    ensures { λ r. ⌜ ByWay w keeping (now (h .entry)) (a .0) n r (now (h .entry)) ⌝ }
+{
+    kept(a, capacity(w, h, a), n)
 }

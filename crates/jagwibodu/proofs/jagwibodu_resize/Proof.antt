@@ -4,7 +4,7 @@ use Rattle.jagwibodu.proofs.jagwibodu_resize.Statement.{statement}
 use Rattle.jagwibodu.proofs.jagwibodu_resize.Tie as tie
 use Rattle.jagwibodu.proofs.jagwibodu_resize.Reads as reads
 use Rattle.jagwibodu.proofs.jagwibodu_resize.Lts as lts
-use Rattle.heap.proofs.resize.Reads as resize-reads
+use Rattle.trying.proofs.resize.Reads as resize-reads
 use Rattle.jagwibodu.proofs.number.Reads as number-reads
 
 resize-requires : tie.Need-resize-requires

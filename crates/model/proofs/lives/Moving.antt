@@ -1,5 +1,5 @@
 -- A record that moves: what is found at an address is live, and live payloads are apart, so that copying into one harms no other and no word of the picture.
-use Prim.Native.Nat.{ℕ, _+_, _-_, _≤_, _<_, _%_}
+use Prim.Native.Nat.{ℕ, _+_, _-_, _≤_, _<_}
 use mathlib.Core.Path.{_≡_, refl, sym, ap, subst, _∙_}
 use mathlib.Core.List.{List, [], _∷_, _++_}
 use mathlib.Core.Logic.{_⊎_, inl, inr, ⊎-elim}
@@ -145,18 +145,18 @@ module _ (S : Shape) where
 
   -- an item in use, and a variable block, that are still live are found again
   module _ (good : Good S) (end : ℕ) (L : Layout) (v : Valid S end L) where
-    pub taken-large : (a : ℕ) (t : Spot) → findFrom S a (start S) (L .blocks) ≡ block t → (leastVariable S ≤ t .size) × (t .size % 8 ≡ 0)
+    pub taken-large : (a : ℕ) (t : Spot) → findFrom S a (start S) (L .blocks) ≡ block t → leastVariable S ≤ t .size
     unfolding AllAllowed Allowed AllowedUse
     taken-large a t e =
         let f = block-found S good a (start S) (L .blocks) t e in
         let all : AllAllowed S (t .pre ++ ((used (variable (t .size)) ∷ []) ++ t .post)) = subst (λ (l : List Block). AllAllowed S l) (f .blocks) (v .allowed) in
-        allowed-right S (t .pre) ((used (variable (t .size)) ∷ []) ++ t .post) all .0
+        allowed-right S (t .pre) ((used (variable (t .size)) ∷ []) ++ t .post) all .0 .0
 
     pub item-again : (a o c : ℕ) → c < S .classes → a ≡ addressOf S (itemAt S o) → record { address = a; size = itemCapacity S c } ∈ live S L → findFrom S a (start S) (L .blocks) ≡ thing o c
     item-again a o c few at h = go (findFrom S a (start S) (L .blocks)) refl (live-found (record { address = a; size = itemCapacity S c }) (start S) (L .blocks) good (v .allowed) h)
       where
         go : (f : Found) → findFrom S a (start S) (L .blocks) ≡ f → Shown (record { address = a; size = itemCapacity S c }) f → f ≡ thing o c
-        go (block t) e s = absurd (omega (arith, taken-large a t e .0, s .large))
+        go (block t) e s = absurd (omega (arith, taken-large a t e, s .large))
         go (thing o′ c′) e s =
             let i = item-found S good a o′ c′ (start S) (L .blocks) (omega arith) (v .allowed) e in
             let eo : o′ ≡ o = omega (arith, i .at) in
@@ -168,7 +168,7 @@ module _ (S : Shape) where
     block-again a s large h = go (findFrom S a (start S) (L .blocks)) refl (live-found (record { address = a; size = s - tags S }) (start S) (L .blocks) good (v .allowed) h)
       where
         go : (f : Found) → findFrom S a (start S) (L .blocks) ≡ f → Shown (record { address = a; size = s - tags S }) f → (t : Spot) × (findFrom S a (start S) (L .blocks) ≡ block t) × (t .size ≡ s)
-        go (block t) e k = (t, e, omega (arith, taken-large a t e .0, k .large))
+        go (block t) e k = (t, e, omega (arith, taken-large a t e, k .large))
         go (thing o c) e k =
             let i = item-found S good a o c (start S) (L .blocks) (omega arith) (v .allowed) e in
             absurd (omega (arith, i .class, k .large))

@@ -7,8 +7,8 @@ use Rattle.model.specs.Shape.{Shape}
 use Rattle.model.specs.Layout.{Layout}
 use Rattle.model.specs.Rules.{Made, allocate, find, capacity, stays}
 use Rattle.model.specs.Refusals.{badSize, notLive, noRoom, alreadyOpened}
-use Rattle.model.specs.Calls.{found, without}
-use Rattle.model.specs.Promises.{Call, initialising, checking, allocating, freeing, resizing}
+use Rattle.model.specs.Calls.{Way, staying, moving, keeping, found, without}
+use Rattle.model.specs.Promises.{Call, initialising, checking, allocating, freeing, resizing, resizingBy}
 
 pub record Done : Type 0 where
   pub refusal : ℕ
@@ -21,12 +21,12 @@ refuse k L = record { refusal = k; address = 0; layout = L }
 abbrev pub grant : ℕ → Layout → Done
 grant a L = record { refusal = 0; address = a; layout = L }
 
-abbrev orNext : Done → Done → Done
-orNext r next = cond (eqb (r .refusal) noRoom) next r
+abbrev pub orNextOn : Done → Done → Done
+orNextOn r next = cond (eqb (r .refusal) noRoom) next r
 
 module _ (S : Shape) where
-  abbrev sized : ℕ → Layout → Done → Done
-  sized n L next = cond (leb 1 n && leb n (S .most)) next (refuse badSize L)
+  abbrev pub sizedOn : ℕ → Layout → Done → Done
+  sizedOn n L next = cond (leb 1 n && leb n (S .most)) next (refuse badSize L)
 
   abbrev made : Layout → Option Made → (Made → Layout) → Done
   made L none then = refuse noRoom L
@@ -39,15 +39,21 @@ module _ (S : Shape) where
   abbrev kept : ℕ → ℕ → Layout → Done
   kept a n L = cond (leb n (capacity S (find S a L))) (grant a L) (refuse noRoom L)
 
-  abbrev pub firstWay : ℕ → ℕ → Layout → Done
-  firstWay a n L = orNext (placed a L (stays S n (find S a L) L)) (orNext (made L (allocate S n L) (λ m. without S a (m .layout))) (kept a n L))
+  abbrev pub oneWayOn : Way → ℕ → ℕ → Layout → Done
+  oneWayOn staying a n L = placed a L (stays S n (find S a L) L)
+  oneWayOn moving a n L = made L (allocate S n L) (λ m. without S a (m .layout))
+  oneWayOn keeping a n L = kept a n L
+
+  unfoldable pub resizedByOn : Way → ℕ → ℕ → Layout → Done
+  resizedByOn v a n L = found S (find S a L) (refuse notLive L) (oneWayOn v a n L)
 
   unfoldable pub resizedOn : ℕ → ℕ → Layout → Done
-  resizedOn a n L = found S (find S a L) (refuse notLive L) (firstWay a n L)
+  resizedOn a n L = found S (find S a L) (refuse notLive L) (orNextOn (oneWayOn staying a n L) (orNextOn (oneWayOn moving a n L) (oneWayOn keeping a n L)))
 
   unfoldable pub doing : Call → Layout → Done
   doing initialising L = refuse alreadyOpened L
   doing checking L = grant 0 L
-  doing (allocating n) L = sized n L (made L (allocate S n L) (λ m. m .layout))
+  doing (allocating n) L = sizedOn n L (made L (allocate S n L) (λ m. m .layout))
   doing (freeing a) L = found S (find S a L) (refuse notLive L) (grant 0 (without S a L))
-  doing (resizing a n) L = sized n L (resizedOn a n L)
+  doing (resizing a n) L = sizedOn n L (resizedOn a n L)
+  doing (resizingBy v a n) L = sizedOn n L (resizedByOn v a n L)

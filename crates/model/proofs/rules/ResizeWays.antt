@@ -1,27 +1,51 @@
--- Resize: the ways that its rule can go. Proofs about a resize take these cases, and do not open the rule.
+-- Resize: where its ways lead. Proofs about a resize take these cases, and do not open the rule.
 use Prim.Native.Nat.{ℕ, _≤_, _<_}
-use mathlib.Core.Path.{_≡_, refl, ap}
+use mathlib.Core.Path.{_≡_, refl, sym, ap, subst, _∙_}
+use mathlib.Core.Bool.{Bool, true, false, cond, _&&_}
 use mathlib.Core.List.{List}
+use mathlib.Core.Logic.{_↔_}
 use mathlib.Core.Option.{Option, none, some}
 use native.Mathlib.Omega.{arith}
-use native.Mathlib.Decide.{decLe}
-use borrow.Author.Tests.{le-leb, lt-leb}
+use native.Mathlib.Decide.{ℕ-discrete, decLe}
+use lib.Dec.{leb}
+use borrow.Author.Tests.{eq-eqb, ne-eqb, le-leb, lt-leb}
 use Rattle.model.specs.Shape.{Shape}
 use Rattle.model.specs.Layout.{Layout}
 use Rattle.model.specs.Rules.{Made, Found, block, thing, nothing, allocate, find, capacity, stays}
-use Rattle.model.specs.Refusals.{notLive, noRoom}
-use Rattle.model.specs.Calls.{Outcome, refused, granted, orNext, drawn, found, without, stayed, movedBytes, moved, kept, resized}
+use Rattle.model.specs.Refusals.{badSize, notLive, noRoom}
+use Rattle.model.specs.Calls.{Way, staying, moving, keeping, Outcome, refused, granted, orNext, drawn, sized, found, made, without, placed, movedBytes, kept, resized, oneWay, resizedBy, Moves, Keeps}
+use Rattle.model.specs.Promises.{SplitGives}
 use Rattle.model.proofs.lives.LiveFound.{isThere}
-use Rattle.model.proofs.rules.OnLayouts.{Done, refuse, grant, firstWay, resizedOn}
+use Rattle.model.proofs.rules.OnLayouts.{Done, refuse, grant, orNextOn, oneWayOn, resizedByOn, resizedOn}
+
+-- what comes next counts only where the first says "no room"
+next-same : (r o s p : Outcome) → r ≡ o → (r .refusal ≡ noRoom → s ≡ p) → orNext r s ≡ orNext o p
+next-same r o s p e f = go (ℕ-discrete (r .refusal) noRoom)
+  where
+    go : Dec (r .refusal ≡ noRoom) → orNext r s ≡ orNext o p
+    go (yes k) = rw (sym e, eq-eqb (r .refusal) noRoom k) (f k)
+    go (no k) = rw (sym e, ne-eqb (r .refusal) noRoom k) refl
+
+next-six : (r s : Outcome) → (orNext r s .refusal ≡ noRoom) ↔ ((r .refusal ≡ noRoom) × (s .refusal ≡ noRoom))
+next-six r s = go (ℕ-discrete (r .refusal) noRoom)
+  where
+    go : Dec (r .refusal ≡ noRoom) → (orNext r s .refusal ≡ noRoom) ↔ ((r .refusal ≡ noRoom) × (s .refusal ≡ noRoom))
+    go (yes k) = rw (eq-eqb (r .refusal) noRoom k) ((λ e. (k, e)), (λ e. e .1))
+    go (no k) = rw (ne-eqb (r .refusal) noRoom k) ((λ e. absurd (k e)), (λ e. absurd (k (e .0))))
+
+-- an allocation, and so a move, says "no room" exactly where the rule makes nothing
+pub made-none : (S : Shape) (b : List ℕ) (o : Option Made) (heap : Made → List ℕ) → (made S b o heap .refusal ≡ noRoom) ↔ (o ≡ none)
+made-none S b none heap = ((λ e. refl), (λ e. refl))
+made-none S b (some m) heap = ((λ e. absurd (omega (arith, e))), (λ e. ap (λ (o : Option Made). made S b o heap .refusal) e))
 
 module _ (S : Shape) (b : List ℕ) (a n : ℕ) (L : Layout) where
-  -- each with the facts that open it, and with the outcome on bytes and on layouts
-  pub data Way : Outcome → Done → Type 0 where
-    nowhere : find S a L ≡ nothing → Way (refused b notLive) (refuse notLive L)
-    inPlace : isThere (find S a L) ≡ 1 → (M : Layout) → stays S n (find S a L) L ≡ some M → Way (granted a (drawn S M b)) (grant a M)
-    elsewhere : isThere (find S a L) ≡ 1 → stays S n (find S a L) L ≡ none → (m : Made) → allocate S n L ≡ some m → Way (granted (m .at) (movedBytes S b a n L m)) (grant (m .at) (without S a (m .layout)))
-    asItIs : isThere (find S a L) ≡ 1 → stays S n (find S a L) L ≡ none → allocate S n L ≡ none → n ≤ capacity S (find S a L) → Way (granted a b) (grant a L)
-    noWay : isThere (find S a L) ≡ 1 → stays S n (find S a L) L ≡ none → allocate S n L ≡ none → capacity S (find S a L) < n → Way (refused b noRoom) (refuse noRoom L)
+  -- where a resize of any form led, with the fact that opened it, and with the outcome on bytes and on layouts
+  pub data Went : Outcome → Done → Type 0 where
+    nowhere : find S a L ≡ nothing → Went (refused b notLive) (refuse notLive L)
+    inPlace : isThere (find S a L) ≡ 1 → (M : Layout) → stays S n (find S a L) L ≡ some M → Went (granted a (drawn S M b)) (grant a M)
+    elsewhere : isThere (find S a L) ≡ 1 → (m : Made) → allocate S n L ≡ some m → Went (granted (m .at) (movedBytes S b a n L m)) (grant (m .at) (without S a (m .layout)))
+    asItIs : isThere (find S a L) ≡ 1 → n ≤ capacity S (find S a L) → Went (granted a b) (grant a L)
+    noWay : isThere (find S a L) ≡ 1 → Went (refused b noRoom) (refuse noRoom L)
 
   -- of what is live
   found-there : {A : Type 0} (f : Found) → isThere f ≡ 1 → (x y : A) → found S f x y ≡ y
@@ -29,38 +53,157 @@ module _ (S : Shape) (b : List ℕ) (a n : ℕ) (L : Layout) where
   found-there (block t) i x y = refl
   found-there (thing o c) i x y = refl
 
-  -- the first way that is open
-  abbrev first : Outcome
-  first = orNext (stayed S b a n L) (orNext (moved S b a n L) (kept S b a n L))
-
-  live-way : isThere (find S a L) ≡ 1 → Way first (firstWay S a n L)
-  live-way i = go (stays S n (find S a L) L) refl (allocate S n L) refl (decLe n (capacity S (find S a L)))
+  one-went : (v : Way) → isThere (find S a L) ≡ 1 → Went (oneWay S v b a n L) (oneWayOn S v a n L)
+  one-went staying i = go (stays S n (find S a L) L) refl
     where
-      go : (s : Option Layout) → stays S n (find S a L) L ≡ s → (o : Option Made) → allocate S n L ≡ o → Dec (n ≤ capacity S (find S a L)) → Way first (firstWay S a n L)
-      go (some M) k o m d = rw k (inPlace i M k)
-      go none k (some x) m d = rw (k, m) (elsewhere i k x m)
-      go none k none m (yes d) = rw (k, m, le-leb n (capacity S (find S a L)) d) (asItIs i k m d)
-      go none k none m (no d) = rw (k, m, lt-leb n (capacity S (find S a L)) (omega (arith, d))) (noWay i k m (omega (arith, d)))
-
-  -- THE LAW: the rule goes one of them
-  pub way : Way (resized S b a n L) (resizedOn S a n L)
-  unfolding resized resizedOn
-  way = go (find S a L) refl
+      go : (o : Option Layout) → stays S n (find S a L) L ≡ o → Went (oneWay S staying b a n L) (oneWayOn S staying a n L)
+      go (some M) k = rw k (inPlace i M k)
+      go none k = rw k (noWay i)
+  one-went moving i = go (allocate S n L) refl
     where
-      there : isThere (find S a L) ≡ 1 → Way (resized S b a n L) (resizedOn S a n L)
-      there i = rw (found-there {A = Outcome} (find S a L) i, found-there {A = Done} (find S a L) i) (live-way i)
+      go : (o : Option Made) → allocate S n L ≡ o → Went (oneWay S moving b a n L) (oneWayOn S moving a n L)
+      go (some m) k = rw k (elsewhere i m k)
+      go none k = rw k (noWay i)
+  one-went keeping i = go (decLe n (capacity S (find S a L)))
+    where
+      go : Dec (n ≤ capacity S (find S a L)) → Went (oneWay S keeping b a n L) (oneWayOn S keeping a n L)
+      go (yes k) = rw (le-leb n (capacity S (find S a L)) k) (asItIs i k)
+      go (no k) = rw (lt-leb n (capacity S (find S a L)) (omega (arith, k))) (noWay i)
 
-      go : (f : Found) → find S a L ≡ f → Way (resized S b a n L) (resizedOn S a n L)
+  next-went : {o p : Outcome} {d e : Done} → Went o d → Went p e → Went (orNext o p) (orNextOn d e)
+  next-went (nowhere f) q = nowhere f
+  next-went (inPlace i M s) q = inPlace i M s
+  next-went (elsewhere i m k) q = elsewhere i m k
+  next-went (asItIs i c) q = asItIs i c
+  next-went (noWay i) q = q
+
+  -- where nothing is live, all forms lead nowhere
+  found-went : (o : Outcome) (d : Done) → (isThere (find S a L) ≡ 1 → Went o d) → Went (found S (find S a L) (refused b notLive) o) (found S (find S a L) (refuse notLive L) d)
+  found-went o d w = go (find S a L) refl
+    where
+      there : isThere (find S a L) ≡ 1 → Went (found S (find S a L) (refused b notLive) o) (found S (find S a L) (refuse notLive L) d)
+      there i = rw (found-there {A = Outcome} (find S a L) i, found-there {A = Done} (find S a L) i) (w i)
+
+      go : (f : Found) → find S a L ≡ f → Went (found S (find S a L) (refused b notLive) o) (found S (find S a L) (refuse notLive L) d)
       go nothing e = rw e (nowhere e)
       go (block t) e = there (ap isThere e)
       go (thing o c) e = there (ap isThere e)
+
+  -- THE LAWS: where one way leads, and where resize does
+  pub went-by : (v : Way) → Went (resizedBy S v b a n L) (resizedByOn S v a n L)
+  unfolding resizedBy resizedByOn
+  went-by v = found-went (oneWay S v b a n L) (oneWayOn S v a n L) (one-went v)
+
+  pub went : Went (resized S b a n L) (resizedOn S a n L)
+  unfolding resized resizedOn
+  went = found-went _ _ (λ i. next-went (one-went staying i) (next-went (one-went moving i) (one-went keeping i)))
 
   -- where nothing is live
   pub resized-nowhere : find S a L ≡ nothing → resized S b a n L ≡ refused b notLive
   unfolding resized
   resized-nowhere e = rw e refl
 
-  -- and of what is live
-  pub resized-there : isThere (find S a L) ≡ 1 → resized S b a n L ≡ first
-  unfolding resized
-  resized-there i = found-there (find S a L) i (refused b notLive) first
+  pub by-nowhere : (v : Way) → find S a L ≡ nothing → resizedBy S v b a n L ≡ refused b notLive
+  unfolding resizedBy
+  by-nowhere v e = rw e refl
+
+  -- of what is live
+  pub by-there : (v : Way) → isThere (find S a L) ≡ 1 → resizedBy S v b a n L ≡ oneWay S v b a n L
+  unfolding resizedBy
+  by-there v i = found-there (find S a L) i (refused b notLive) (oneWay S v b a n L)
+
+  -- resize is its ways in turn, whatever is found
+  in-turn : resized S b a n L ≡ orNext (resizedBy S staying b a n L) (orNext (resizedBy S moving b a n L) (resizedBy S keeping b a n L))
+  unfolding resized resizedBy
+  in-turn = go (find S a L)
+    where
+      go : (f : Found) → found S f (refused b notLive) (orNext (oneWay S staying b a n L) (orNext (oneWay S moving b a n L) (oneWay S keeping b a n L)))
+          ≡ orNext (found S f (refused b notLive) (oneWay S staying b a n L)) (orNext (found S f (refused b notLive) (oneWay S moving b a n L)) (found S f (refused b notLive) (oneWay S keeping b a n L)))
+      go nothing = refl
+      go (block t) = refl
+      go (thing o c) = refl
+
+  -- a way is shut
+  abbrev pub Shut : Way → Type 0
+  Shut staying = stays S n (find S a L) L ≡ none
+  Shut moving = allocate S n L ≡ none
+  Shut keeping = capacity S (find S a L) < n
+
+  -- one way says "no room" exactly where it is shut, resize where all are
+  one-shut : (v : Way) → (oneWay S v b a n L .refusal ≡ noRoom) ↔ Shut v
+  one-shut staying = go (stays S n (find S a L) L)
+    where
+      go : (o : Option Layout) → (placed S b a o .refusal ≡ noRoom) ↔ (o ≡ none)
+      go none = ((λ e. refl), (λ e. refl))
+      go (some M) = ((λ e. absurd (omega (arith, e))), (λ e. ap (λ (o : Option Layout). placed S b a o .refusal) e))
+  one-shut moving = made-none S b (allocate S n L) (movedBytes S b a n L)
+  one-shut keeping = go (decLe n (capacity S (find S a L)))
+    where
+      go : Dec (n ≤ capacity S (find S a L)) → (kept S b a n L .refusal ≡ noRoom) ↔ (capacity S (find S a L) < n)
+      go (yes k) = rw (le-leb n (capacity S (find S a L)) k) ((λ e. absurd (omega (arith, e))), (λ e. absurd (omega (arith, e, k))))
+      go (no k) = rw (lt-leb n (capacity S (find S a L)) (omega (arith, k))) ((λ e. omega (arith, k)), (λ e. refl))
+
+  module _ (i : isThere (find S a L) ≡ 1) where
+    pub by-shut : (v : Way) → (resizedBy S v b a n L .refusal ≡ noRoom) ↔ Shut v
+    by-shut v = rw (by-there v i) (one-shut v)
+
+    pub all-shut : (resized S b a n L .refusal ≡ noRoom) ↔ (Shut staying × Shut moving × Shut keeping)
+    all-shut =
+        let s = by-shut staying in
+        let m = by-shut moving in
+        let k = by-shut keeping in
+        let x = next-six (resizedBy S staying b a n L) (orNext (resizedBy S moving b a n L) (resizedBy S keeping b a n L)) in
+        let y = next-six (resizedBy S moving b a n L) (resizedBy S keeping b a n L) in
+        rw in-turn (
+          (λ e. let p = x .0 e in let q = y .0 (p .1) in (s .0 (p .0), m .0 (q .0), k .0 (q .1))),
+          (λ e. x .1 (s .1 (e .0), y .1 (m .1 (e .1), k .1 (e .2)))),
+        )
+
+    -- a record that holds n bytes already, and can neither stay nor move, is kept
+    pub shut-kept : Shut staying → Shut moving → n ≤ capacity S (find S a L) → resized S b a n L ≡ granted a b
+    unfolding resized
+    shut-kept s m c = rw (found-there {A = Outcome} (find S a L) i, s, m, le-leb n (capacity S (find S a L)) c) refl
+
+  -- one way that says "no room" leaves the heap as it was
+  six-leaves : {o : Outcome} {d : Done} → Went o d → o .refusal ≡ noRoom → o .heap ≡ b
+  six-leaves (nowhere f) e = refl
+  six-leaves (inPlace i M s) e = absurd (omega (arith, e))
+  six-leaves (elsewhere i m k) e = absurd (omega (arith, e))
+  six-leaves (asItIs i c) e = refl
+  six-leaves (noWay i) e = refl
+
+  sized-leaves : (v : Way) → sized S n b (resizedBy S v b a n L) .refusal ≡ noRoom → sized S n b (resizedBy S v b a n L) .heap ≡ b
+  sized-leaves v = go (leb 1 n && leb n (S .most))
+    where
+      go : (y : Bool) → cond y (resizedBy S v b a n L) (refused b badSize) .refusal ≡ noRoom → cond y (resizedBy S v b a n L) (refused b badSize) .heap ≡ b
+      go true e = six-leaves (went-by v) e
+      go false e = refl
+
+  sized-in-turn : sized S n b (resized S b a n L) ≡ orNext (sized S n b (resizedBy S staying b a n L)) (orNext (sized S n b (resizedBy S moving b a n L)) (sized S n b (resizedBy S keeping b a n L)))
+  sized-in-turn = go (leb 1 n && leb n (S .most))
+    where
+      go : (y : Bool) → cond y (resized S b a n L) (refused b badSize)
+          ≡ orNext (cond y (resizedBy S staying b a n L) (refused b badSize)) (orNext (cond y (resizedBy S moving b a n L) (refused b badSize)) (cond y (resizedBy S keeping b a n L) (refused b badSize)))
+      go true = in-turn
+      go false = refl
+
+-- THE SPLIT: trying the ways one after the other, each as a call by itself, gives what resize gives
+pub split-gives : (S : Shape) → SplitGives S
+split-gives S b a n r s t p q k =
+    record {
+      one = λ m. rw (p .one m) refl;
+      two = λ l m. rw (p .two l m) refl;
+      three = λ l o m. rw (p .three l o m) refl;
+      sound = λ l L h.
+          let pr = p .sound l L h in
+          next-same r (sized S n b (resizedBy S staying b a n L)) (orNext s t) (orNext (sized S n b (resizedBy S moving b a n L)) (sized S n b (resizedBy S keeping b a n L))) pr
+          (λ e.
+          let er : r .heap ≡ b = heap-of r staying L pr e in
+          let ps = subst (λ (c : List ℕ). Moves S c a n s) er (q e) .sound l L h in
+          next-same s (sized S n b (resizedBy S moving b a n L)) t (sized S n b (resizedBy S keeping b a n L)) ps
+          (λ f. subst (λ (c : List ℕ). Keeps S c a n t) (heap-of s moving L ps f) (k e f) .sound l L h))
+          ∙ sym (sized-in-turn S b a n L);
+    }
+  where
+    heap-of : (o : Outcome) (v : Way) (L : Layout) → o ≡ sized S n b (resizedBy S v b a n L) → o .refusal ≡ noRoom → o .heap ≡ b
+    heap-of o v L e f = ap (λ (x : Outcome). x .heap) e ∙ sized-leaves S b a n L v (sym (ap (λ (x : Outcome). x .refusal) e) ∙ f)

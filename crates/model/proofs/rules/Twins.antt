@@ -14,7 +14,7 @@ use Rattle.model.specs.Layout.{Slot, idle, held, Use, variable, page, Bl
 use Rattle.model.specs.Sound.{idleSlots}
 use Rattle.model.specs.Rules.{Spot, after, fit, before, inFront, released, Found, block, thing, nothing, behind, orElse, Made, cut, placed, slotTo, useTo, itemTo, pushed, paged, fromList, fromPage, anItem, aBlock, allocate, inSlots, findFrom, find, freed, fresh}
 use Rattle.model.specs.Refusals.{noRoom}
-use Rattle.model.specs.Promises.{Call, initialising, checking, allocating, freeing, resizing, Plain}
+use Rattle.model.specs.Promises.{Call, initialising, checking, allocating, freeing, resizing, resizingBy, Plain}
 use Rattle.model.proofs.items.Items.{size-useTo}
 use Rattle.model.proofs.items.Paged.{pageOf, page-size}
 use Rattle.model.proofs.rules.OnLayouts.{Done, doing}
@@ -293,3 +293,4 @@ module _ (S : Shape) where
   doing-twins (allocating n) h w r = allocating-twins n w r
   doing-twins (freeing a) h w r = freeing-twins a w
   doing-twins (resizing a n) h w r = absurd h
+  doing-twins (resizingBy v a n) h w r = absurd h

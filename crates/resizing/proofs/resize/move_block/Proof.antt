@@ -1,8 +1,6 @@
 use Rattle.resizing.proofs.BlockMoving.{mendable, found-again, given-back}
 use Rattle.resizing.proofs.MendLaws.{prev-back, back-room}
-use Rattle.resizing.proofs.ResizeLaws.{moved-nowhere, block-large, block-holds, as-block}
-use Rattle.model.proofs.Sizes.{most-bound}
-use mathlib.Core.Path.{_∙_}
+use Rattle.resizing.proofs.ResizeLaws.{moved-nowhere, block-large, block-holds}
 use native.Mathlib.Omega.{arith}
 use borrow.Author.Needs.{needs}
 use Rattle.resizing.proofs.resize.move_block.Statement.{statement}
@@ -22,16 +20,13 @@ word-requires : tie.Need-word-requires
 word-requires c κs = (c .before .before .before .pre .0 .ready .width, back-room (c .before .before .before .pre .0) _ (c .back-at .ensures))
 
 block-capacity-requires : tie.Need-block-capacity-requires
-block-capacity-requires c κs = (c .before .before .before .before .before .pre .0 .ready .width, omega (arith, block-large (c .before .before .before .before .before .pre .0) .0))
+block-capacity-requires c κs = (c .before .before .before .before .before .pre .0 .ready .width, omega (arith, block-large (c .before .before .before .before .before .pre .0)))
 
 carry-requires : tie.Need-carry-requires
 carry-requires c κs = (rw (c .block-capacity .ensures) (block-holds (c .before .before .before .before .before .before .pre .0)), c .before .before .before .before .before .before .pre .1)
 
 enum-told : tie.Need-enum-told
 enum-told c = search needs
-
-kept-requires : tie.Need-kept-requires
-kept-requires c κs = search needs
 
 enum-known-t : tie.Need-enum-known-t
 enum-known-t c = search needs
@@ -42,14 +37,11 @@ mend-requires c κs = mendable (c .before .before .before .before .before .befor
 release-requires : tie.Need-release-requires
 release-requires c κs = found-again (c .before .before .before .before .before .before .before .before .before .before .before .before .before .before .before .pre .0) (rw (c .before .before .before .before .before .before .before .before .before .block-capacity .ensures) at (c .before .before .before .before .before .before .before .before .carry .ensures)) (c .before .before .before .before .before .before .before .before .before .before .before .before .before .before .before .pre .1) _ (c .before .before .before .before .t .given .1) _ _ (c .before .before .before .before .before .before .before .before .before .before .before .before .back-at .ensures) (c .before .before .before .before .before .before .before .before .before .before .before .word .ensures) (c .before .mend .ensures) (search needs)
 
-need-of-requires : tie.Need-need-of-requires
-need-of-requires c κs = (c .before .before .before .before .before .before .before .before .before .before .before .pre .0 .ready .width, omega (arith, c .before .before .before .before .before .before .before .before .before .before .before .pre .1 .most, most-bound (c .before .before .before .before .before .before .before .before .before .before .before .pre .0 .ready .width)))
-
 same-length : tie.Need-same-length
 same-length c = search needs
 
 returns : tie.Need-returns
-returns c = moved-nowhere (rw (c .before .before .before .before .before .before .before .block-capacity .ensures) at (c .before .before .before .before .before .before .carry .ensures)) (block-holds (c .before .before .before .before .before .before .before .before .before .before .before .before .before .pre .0)) (c .before .before .enum-told .given .1) _ (c .kept .ensures ∙ rw (c .before .need-of .ensures) (as-block (c .before .before .before .before .before .before .before .before .before .before .before .before .before .pre .0) _ _))
+returns c = moved-nowhere (rw (c .before .before .before .before .before .block-capacity .ensures) at (c .before .before .before .before .carry .ensures)) (block-holds (c .before .before .before .before .before .before .before .before .before .before .before .pre .0)) (c .enum-told .given .1)
 
 same-length-2 : tie.Need-same-length-2
 same-length-2 c = search needs
@@ -66,8 +58,6 @@ move-block-spec =
     block-capacity-requires
     carry-requires
     enum-told
-    need-of-requires
-    kept-requires
     enum-known-t
     mend-requires
     release-requires

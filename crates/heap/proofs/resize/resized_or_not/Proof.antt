@@ -1,8 +1,8 @@
 use borrow.Author.Needs.{needs}
-use Rattle.heap.proofs.resized_or_not.Statement.{statement}
-use Rattle.heap.proofs.resized_or_not.Tie as tie
-use Rattle.heap.proofs.resized_or_not.Reads as reads
-use Rattle.heap.proofs.resized_or_not.Lts as lts
+use Rattle.heap.proofs.resize.resized_or_not.Statement.{statement}
+use Rattle.heap.proofs.resize.resized_or_not.Tie as tie
+use Rattle.heap.proofs.resize.resized_or_not.Reads as reads
+use Rattle.heap.proofs.resize.resized_or_not.Lts as lts
 
 enum-known-t : tie.Need-enum-known-t
 enum-known-t c = search needs
