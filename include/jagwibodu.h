@@ -23,7 +23,7 @@
 extern "C" {
 #endif
 
-#define JAGWIBODU_VERSION "1.1"
+#define JAGWIBODU_VERSION "1.2"
 
 /* The lengths that a buffer may have; the largest size that can be asked for is the latter too. */
 #define JAGWIBODU_SHORTEST 344
@@ -39,7 +39,7 @@ enum jagwibodu_refusal {
     JAGWIBODU_NOT_SOUND = 3,     /* the heap is damaged */
     JAGWIBODU_BAD_SIZE = 4,      /* the size is 0 or above 1,048,576 */
     JAGWIBODU_NOT_LIVE = 5,      /* no record is live at the address */
-    JAGWIBODU_NO_ROOM = 6,       /* no item and no block is free for it */
+    JAGWIBODU_NO_ROOM = 6,       /* no item and no block is free for it; of a resize in place: it cannot stay */
     JAGWIBODU_ALREADY_OPENED = 7 /* initialise, and the buffer holds a heap */
 };
 
@@ -81,9 +81,20 @@ uint64_t jagwibodu_check(const uint8_t *buffer, size_t length);
    4, or 6. */
 uint64_t jagwibodu_allocate(uint8_t *buffer, size_t length, uint64_t size);
 
-/* Gives the record at `address` a new size, where it stands or elsewhere, with the bytes that both sizes share. Where
-   there is no room elsewhere, a record that holds the new size already stays as it is, and the call is granted: 6 is
-   only for a size that the record cannot hold. Refused with 1 to 6; then the record stays as it was. */
+/* Gives the record at `address` a new size where it stands, and answers `address` again. It never moves a record: who
+   holds a pointer to one asks this first. Refused with 1 to 6; then the record stays as it was. 6 means exactly that
+   the record cannot have this size and stay, which may be so for a smaller size too. */
+uint64_t jagwibodu_resize_in_place(uint8_t *buffer, size_t length, uint64_t address, uint64_t size);
+
+/* Gives the record at `address` a new size elsewhere, with the bytes that both sizes share, and gives its old place
+   back. It always moves, to the same size too, and never answers `address`. Refused with 1 to 6; then the record stays
+   as it was. 6 means exactly that an allocation of `size` finds no room while the record is still there. */
+uint64_t jagwibodu_move(uint8_t *buffer, size_t length, uint64_t address, uint64_t size);
+
+/* Gives the record at `address` a new size, where it stands or elsewhere: what jagwibodu_resize_in_place gives; where
+   that answers 6, what jagwibodu_move gives; and where that answers 6 too, a record that holds the new size already
+   stays as it is, and the call is granted. So 6 is only for a size that the record cannot hold. Refused with 1 to 6;
+   then the record stays as it was. */
 uint64_t jagwibodu_resize(uint8_t *buffer, size_t length, uint64_t address, uint64_t size);
 
 /* Gives the record at `address` back. Refused with 1, 2, 3 or 5. */
