@@ -614,7 +614,8 @@ uint64_t twin_allocate(uint8_t *h, size_t n, uint64_t size)
     return address ? address : refuse(NO_ROOM);
 }
 
-uint64_t twin_resize(uint8_t *h, size_t n, uint64_t address, uint64_t size)
+/* Finds the record that is to have another size; answers why not, or 0. */
+static inline uint64_t find_to_resize(const uint8_t *h, size_t n, uint64_t address, uint64_t size, struct live *live)
 {
     uint64_t refused = twin_check(h, n);
 
@@ -622,15 +623,52 @@ uint64_t twin_resize(uint8_t *h, size_t n, uint64_t address, uint64_t size)
         return refused;
     if (size == 0 || size > LARGEST_SIZE)
         return refuse(BAD_SIZE);
-    struct live live = find(h, end_of(n), address);
-    if (!live.found)
-        return refuse(BAD_ADDRESS);
-    if (resize_in_place(h, &live, size))
-        return address;
+    *live = find(h, end_of(n), address);
+    return live->found ? GRANTED : refuse(BAD_ADDRESS);
+}
+
+uint64_t twin_resize_in_place(uint8_t *h, size_t n, uint64_t address, uint64_t size)
+{
+    struct live live;
+    uint64_t refused = find_to_resize(h, n, address, size, &live);
+
+    if (refused)
+        return refused;
+    return resize_in_place(h, &live, size) ? address : refuse(NO_ROOM);
+}
+
+uint64_t twin_move(uint8_t *h, size_t n, uint64_t address, uint64_t size)
+{
+    struct live live;
+    uint64_t refused = find_to_resize(h, n, address, size, &live);
+
+    if (refused)
+        return refused;
     uint64_t new = move(h, &live, address, size);
-    if (new == 0 && size <= capacity_of(&live))
-        return address;
     return new ? new : refuse(NO_ROOM);
+}
+
+/* The record as it is, where it holds the size already. */
+static uint64_t keep(const uint8_t *h, size_t n, uint64_t address, uint64_t size)
+{
+    struct live live;
+    uint64_t refused = find_to_resize(h, n, address, size, &live);
+
+    if (refused)
+        return refused;
+    return size <= capacity_of(&live) ? address : refuse(NO_ROOM);
+}
+
+/* In place, or else elsewhere, or else as it is. */
+uint64_t twin_resize(uint8_t *h, size_t n, uint64_t address, uint64_t size)
+{
+    uint64_t answer = twin_resize_in_place(h, n, address, size);
+
+    if (answer == refuse(NO_ROOM))
+        answer = twin_move(h, n, address, size);
+    if (answer == refuse(NO_ROOM))
+        answer = keep(h, n, address, size);
+    return answer;
 }
 
 uint64_t twin_free(uint8_t *h, size_t n, uint64_t address)

@@ -10,6 +10,8 @@ uint64_t twin_initialise(uint8_t *h, size_t n);
 uint64_t twin_check(const uint8_t *h, size_t n);
 uint64_t twin_allocate(uint8_t *h, size_t n, uint64_t size);
 uint64_t twin_resize(uint8_t *h, size_t n, uint64_t address, uint64_t size);
+uint64_t twin_resize_in_place(uint8_t *h, size_t n, uint64_t address, uint64_t size);
+uint64_t twin_move(uint8_t *h, size_t n, uint64_t address, uint64_t size);
 uint64_t twin_free(uint8_t *h, size_t n, uint64_t address);
 
 #endif
