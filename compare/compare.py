@@ -20,6 +20,7 @@ import time
 
 sys.dont_write_bytecode = True  # products belong below target/
 from damage import damaged
+from heaps import Tally
 from runs import CALLS, Run, Player, random_run, sound_heap
 from second import FIGURES, played
 
@@ -31,7 +32,18 @@ BATCH_BYTES = 16 << 20
 TIME_LIMIT = 120  # seconds for one batch, of which an emulator needs some
 STACK = struct.Struct("<QQQ")  # what the driver says last
 HEAPS_FROM_ONE = 25  # damaged heaps made from the same sound one
-KEPT_SHARE = 1000  # of so many calls in random runs one at least keeps its record for want of room
+# What the random runs must meet, each at least once in so many calls.
+SHARES = {
+    "resize: kept for want of room": 1000,
+    "resize_in_place: shrunk or grown": 250,
+    "resize_in_place: 6 for more than it holds": 200,
+    "resize_in_place: 6 for what it holds already": 200,
+    "move: within its class": 300,
+    "move: from block to block": 200,
+    "move: to another class or kind": 250,
+    "move: 6 for more than it holds": 250,
+    "move: 6 for what it holds already": 250,
+}
 
 
 class Difference(Exception):
@@ -206,7 +218,8 @@ def random_runs(seed, number, counts):
         check_second(run)
         counts["calls"] += run.calls
         counts["heaps"] += 1
-        counts["kept"] += run.heap.kept
+        counts["resize: kept for want of room"] += run.heap.kept
+        counts.update(run.met)
         index += 1
         yield run
 
@@ -285,7 +298,7 @@ def options():
 def main():
     chosen = options()
     began = time.monotonic()
-    counts = {"figures": 0, "calls": 0, "heaps": 0, "kept": 0, "damaged": 0, "still sound": 0}
+    counts = Tally()
     driver = Driver(build_driver(chosen.library, chosen.prefix))
     try:
         if chosen.only:
@@ -296,8 +309,7 @@ def main():
                 driver.add(run)
             for run in random_runs(chosen.seed, chosen.number, counts):
                 driver.add(run)
-            if counts["kept"] * KEPT_SHARE < counts["calls"]:
-                raise SystemExit(f"compare: only {counts['kept']} of {counts['calls']} calls kept a record for want of room")
+            counts.demand({case: counts["calls"] // share for case, share in SHARES.items()})
             for run in all_damaged_runs(chosen.seed, chosen.damaged, counts):
                 driver.add(run)
         driver.finish()
@@ -307,7 +319,8 @@ def main():
     stack = stack_used(driver, counts["calls"], chosen.stack)
     print(f"compare: {counts['figures']} figures, and from seed {chosen.seed} {counts['calls']} calls on "
           f"{counts['heaps']} heaps and {counts['damaged']} damaged heaps ({counts['still sound']} of them still sound) "
-          f"agree, {counts['kept']} records were kept for want of room, {stack}, {time.monotonic() - began:.0f} s")
+          f"agree, {stack}, {time.monotonic() - began:.0f} s")
+    print("compare: among them " + ", ".join(f"{counts[case]} of '{case}'" for case in SHARES))
     return 0
 
 

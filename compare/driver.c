@@ -7,10 +7,12 @@
      I / C                  initialise / check
      A size                 allocate
      R address size         resize
+     H address size         resize in place ("here")
+     M address size         move
      F address              free
-   Answer to each of I, C, A, R and F: the call's answer, the number of ranges, and for each range its
-   offset from the buffer's start (as a signed number), its length and its new bytes. Outside the buffer all
-   bytes are FILL until a call changes them.
+   Answer to each call: its own answer, the number of ranges, and for each range its offset from the
+   buffer's start (as a signed number), its length and its new bytes. Outside the buffer all bytes are FILL
+   until a call changes them.
    At the end: of how many calls the stack was measured, the most bytes of it that one used, and JAGWIBODU_STACK. */
 #include "../include/jagwibodu.h"
 
@@ -223,6 +225,12 @@ static __attribute__((noinline)) uint64_t called(int command, uint64_t first, ui
     case 'R':
         result = jagwibodu_resize(heap, length, first, second);
         break;
+    case 'H':
+        result = jagwibodu_resize_in_place(heap, length, first, second);
+        break;
+    case 'M':
+        result = jagwibodu_move(heap, length, first, second);
+        break;
     case 'F':
         result = jagwibodu_free(heap, length, first);
         break;
@@ -235,8 +243,8 @@ static __attribute__((noinline)) uint64_t called(int command, uint64_t first, ui
 
 static void call(int command)
 {
-    uint64_t first = command == 'A' || command == 'R' || command == 'F' ? read_word() : 0;
-    uint64_t second = command == 'R' ? read_word() : 0;
+    uint64_t first = strchr("ARHMF", command) ? read_word() : 0;
+    uint64_t second = strchr("RHM", command) ? read_word() : 0;
 
     answer(called(command, first, second));
 }

@@ -1,20 +1,38 @@
 """Random runs of calls, recorded as commands for the driver with the second program's answers."""
 
 import struct
+from collections import Counter
 
 from second import (CLASSES, DATA_AREA, FREE, LARGEST_ITEM, LONGEST, MAGIC, NO_ROOM, PAGE, SHORTEST, VARIABLE, WORD,
                     Heap, State, class_of, end_of, item_size, items_in_page)
 
-CALLS = {"initialise": b"I", "check": b"C", "allocate": b"A", "resize": b"R", "free": b"F"}
+CALLS = {"initialise": b"I", "check": b"C", "allocate": b"A", "resize": b"R", "resize_in_place": b"H", "move": b"M",
+         "free": b"F"}
+RESIZES = ("resize", "resize_in_place", "move")  # the forms that a resize has
 BAD_SIZES = (0, 1048577, 2**32, 2**32 + 16, 2**63, 2**64 - 24, 2**64 - 8, 2**64 - 1)
 EDGE_SIZES = (1, 7, 8, 9, 16, 17, 247, 248, 249, 255, 256, 257, 258, 263, 264, 265, 272, 273, 1048576)
 BAD_LENGTHS = (0, 1, 8, 47, 312, 343, 1048577, 1048584, 1048600)
+
+
+def what_came(refusal, size, old, new, moved):
+    """What a resize of any form did, by the size that was asked for and the record's capacities before and after."""
+    if refusal == NO_ROOM:
+        return "6 for more than it holds" if size > old else "6 for what it holds already"
+    if refusal:
+        return f"refused with {refusal}"
+    if not moved:
+        return "left as it was" if old == new else "shrunk or grown"
+    old_class, new_class = (min(class_of(capacity), CLASSES) for capacity in (old, new))  # blocks come after the last
+    if old_class != new_class:
+        return "to another class or kind"
+    return "within its class" if new_class < CLASSES else "from block to block"
 
 
 class Run:
     """One lent buffer and what is done to it, in order.
 
     A step is (call, arguments, answer, writes) or ("poke", position, bytes, None).
+    "met" counts what came of each form of resize.
     """
 
     def __init__(self, label, start, shift, origin):
@@ -24,6 +42,7 @@ class Run:
         self.heap = Heap(bytearray(start))
         self.steps = []
         self.calls = 0
+        self.met = Counter()
         self.commands = bytearray(struct.pack("<cQQ", b"S", shift, len(start)) + self.start)
 
     def call(self, name, *arguments):
@@ -34,6 +53,17 @@ class Run:
         self.steps.append((name, arguments, refusal << 32 | address, writes))
         self.calls += 1
         return refusal, address
+
+    def capacity(self, address):
+        """What the record at an address holds; none where there is no record, or no heap."""
+        return self.heap.state.capacity(address) if self.heap.state else None
+
+    def resize(self, form, address, size):
+        """Calls one of the forms of resize and counts what came of it."""
+        old = self.capacity(address)
+        refusal, new = self.call(form, address, size)
+        self.met[f"{form}: {what_came(refusal, size, old, self.capacity(new), new != address)}"] += 1
+        return refusal, new
 
     def poke(self, position, content):
         """Writes bytes from outside; the caller sees to decoding where it is needed."""
@@ -146,8 +176,7 @@ class Player:
 
     def new_size(self, address):
         """A size for a resize: near the old one, near what is there with the right neighbour, or any."""
-        state = self.run.heap.state
-        capacity = state.capacity(address) if state else None
+        state, capacity = self.run.heap.state, self.run.capacity(address)
         if capacity is None or self.rng.random() < 0.4:
             return self.size()
         right = address + capacity + 8
@@ -204,8 +233,9 @@ class Player:
             self.mood_ends -= 10
 
     def resize(self):
+        """One of the forms of resize."""
         address = self.address()
-        refusal, new = self.run.call("resize", address, self.new_size(address))
+        refusal, new = self.run.resize(self.rng.choice(RESIZES), address, self.new_size(address))
         if not refusal and new != address:
             self.remove(address)
             self.add(new)

@@ -279,20 +279,22 @@ class Heap:
 
     def allocate(self, size):
         refusal = self.verdict or self._refuse_size(size)
-        if refusal:
-            return refusal, 0
-        address = self._allocate(size)
-        self._lay_out_changes()
-        return (GRANTED, address) if address else (NO_ROOM, 0)
+        return (refusal, 0) if refusal else self._give(self._allocate(size))
 
     def resize(self, address, size):
-        refusal = self.verdict or self._refuse_size(size) or self._refuse_address(address)
+        """The rule of 01 with (i) of 02, as it was before (vii): not made of the two calls below."""
+        refusal = self._refuse_resize(address, size)
         if refusal:
             return refusal, 0
-        stays = self._resize_item(address, size) or self._resize_block(address, size)
-        new = address if stays else self._move(address, size) or self._keep(address, size)
-        self._lay_out_changes()
-        return (GRANTED, new) if new else (NO_ROOM, 0)
+        return self._give(self._stay(address, size) or self._move(address, size) or self._keep(address, size))
+
+    def resize_in_place(self, address, size):
+        refusal = self._refuse_resize(address, size)
+        return (refusal, 0) if refusal else self._give(self._stay(address, size))
+
+    def move(self, address, size):
+        refusal = self._refuse_resize(address, size)
+        return (refusal, 0) if refusal else self._give(self._move(address, size))
 
     def free(self, address):
         refusal = self.verdict or self._refuse_address(address)
@@ -341,13 +343,21 @@ class Heap:
         start = 0 if refusal else address
         return refusal, memoryview(self.data)[start:start + length]
 
-    # Refusals that depend on what was asked.
+    # Refusals that depend on what was asked, and the answer where there are none.
 
     def _refuse_size(self, size):
         return GRANTED if 1 <= size <= LARGEST_SIZE else BAD_SIZE
 
     def _refuse_address(self, address):
         return BAD_ADDRESS if self.state.capacity(address) is None else GRANTED
+
+    def _refuse_resize(self, address, size):
+        return self.verdict or self._refuse_size(size) or self._refuse_address(address)
+
+    def _give(self, address):
+        """Lays out what the rules changed, and answers the address that they gave; 6 where they gave none."""
+        self._lay_out_changes()
+        return (GRANTED, address) if address else (NO_ROOM, 0)
 
     # The rules, on the abstract heap alone.
 
@@ -411,6 +421,10 @@ class Heap:
             size += self._remove_free(left)
             position = left
         self._add_free(position, size)
+
+    def _stay(self, address, size):
+        """The address again, if what is there can stay; if so it then has the size."""
+        return address if self._resize_item(address, size) or self._resize_block(address, size) else None
 
     def _resize_item(self, address, size):
         """Whether the address is an item that stays."""
@@ -590,7 +604,15 @@ FIGURES = {
                     {312: 4123}),
     "call-list": (10000, list(example_calls()), {}),
     "smaller-size": (1000, [("initialise", 0, 0), ("allocate", 300, 0, 320), ("resize", 320, 20, 0, 320),
-                            ("resize", 320, 304, 0, 320), ("resize", 320, 900, 6, 0)], {24: 632, 312: 322, 632: 368}),
+                            ("resize", 320, 304, 0, 320), ("resize", 320, 900, 6, 0),
+                            ("resize_in_place", 320, 20, 6, 0), ("move", 320, 20, 6, 0)],
+                     {24: 632, 312: 322, 632: 368}),
+    "item-moved": (10000, [("initialise", 0, 0), ("allocate", 16, 0, 328), ("resize_in_place", 328, 9, 0, 328),
+                           ("resize_in_place", 328, 17, 6, 0), ("move", 328, 16, 0, 352)],
+                   {56: 272, 320: 5125, 344: 7}),
+    "block-moved": (10000, [("initialise", 0, 0), ("allocate", 300, 0, 320), ("resize_in_place", 320, 256, 6, 0),
+                            ("resize_in_place", 320, 257, 0, 320), ("move", 320, 257, 0, 600)],
+                    {24: 312, 312: 280, 320: 872, 592: 282, 872: 9128}),
 }
 
 
@@ -679,6 +701,39 @@ class SelfTest:
             else:
                 self.same(bytes(heap.data), before)
 
+    def resizes_without_change(self):
+        """What is granted in place and asks for nothing new, and what is refused, leave every byte."""
+        heap = self.heap_with_two()
+        before = bytes(heap.data)
+        for address, size, refusal in ((648, 9, GRANTED), (648, 17, NO_ROOM), (320, 303, GRANTED), (320, 305, NO_ROOM)):
+            self.same(heap.resize_in_place(address, size), (refusal, 0 if refusal else address))
+        self.same(heap.move(648, 10000), (NO_ROOM, 0))
+        self.same(bytes(heap.data), before)
+
+    def resized_in_two(self, data, address, size):
+        """What the callers of resize do since (vii): in place, else by a move, else as it is; and the bytes then."""
+        heap = Heap(bytearray(data))
+        answer = heap.resize_in_place(address, size)
+        if answer[0] == NO_ROOM:
+            answer = heap.move(address, size)
+        if answer[0] == NO_ROOM and size <= heap.state.capacity(address):
+            answer = GRANTED, address
+        return answer, heap.data
+
+    def resized_at_once(self, data, address, size):
+        heap = Heap(bytearray(data))
+        return heap.resize(address, size), heap.data
+
+    def resizes_in_two(self):
+        """The two ways agree for every size that matters, on a heap with room and on one with little."""
+        roomy, tight = self.heap_with_two(), self.fresh(1000)
+        self.same(tight.allocate(300), (GRANTED, 320))
+        sizes = (*range(700), 5240, LARGEST_SIZE, LARGEST_SIZE + 1)
+        for heap, address in ((roomy, 320), (roomy, 648), (roomy, 656), (tight, 320)):
+            differing = [size for size in sizes if self.resized_in_two(heap.data, address, size)
+                         != self.resized_at_once(heap.data, address, size)]
+            self.same(differing, [])
+
     def figures(self):
         """Those that are run on the library too; answers the heaps that they leave."""
         heaps = {}
@@ -706,6 +761,8 @@ class SelfTest:
         self.blocks_in_a_hole()
         self.item_freed_twice()
         self.resizes()
+        self.resizes_without_change()
+        self.resizes_in_two()
         self.reading()
         self.call_lists()
         return self.count
