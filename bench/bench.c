@@ -78,6 +78,15 @@ static void measure(const char *call, uint64_t address, uint64_t size)
         BOTH(jagwibodu_resize(ours, length, address, size), twin_resize(twins, length, address, size));
         return;
     }
+    if (!strcmp(call, "resize_in_place")) {
+        BOTH(jagwibodu_resize_in_place(ours, length, address, size),
+             twin_resize_in_place(twins, length, address, size));
+        return;
+    }
+    if (!strcmp(call, "move")) {
+        BOTH(jagwibodu_move(ours, length, address, size), twin_move(twins, length, address, size));
+        return;
+    }
     if (!strcmp(call, "free")) {
         BOTH(jagwibodu_free(ours, length, address), twin_free(twins, length, address));
         return;

@@ -18,12 +18,12 @@ import sys
 ROOT = os.path.dirname(os.path.dirname(os.path.abspath(__file__)))
 sys.path.insert(0, os.path.join(ROOT, "compare"))
 sys.dont_write_bytecode = True  # products belong below target/
-from second import CLASSES, NO_ROOM, VARIABLE, Heap  # noqa: E402
+from second import CLASSES, GRANTED, LARGEST_SIZE, NO_ROOM, VARIABLE, Heap  # noqa: E402
 
 PRODUCTS = os.path.join(ROOT, "target", "bench")
-CALLS = ("initialise", "check", "allocate", "resize", "free")
+CALLS = ("initialise", "check", "allocate", "resize", "resize_in_place", "move", "free")
 SIZES = (10000, 65536, 1048576)
-KEPT = "it is kept for want of room"
+KEPT, CANNOT_STAY, FULL = "it is kept for want of room", "it cannot stay", "there is no room"
 LIMIT = 1.05  # no call may take more instructions than so many times the twin's
 
 
@@ -115,55 +115,106 @@ def frees(heap):
         yield "free a block", "free", block, 0
 
 
-def resizes(heap):
+# Records for a resize: (which it is and what becomes of it, its address, the new size).
+
+def staying(heap):
+    """Records that can have the new size where they stand."""
     state = heap.state
-    item = last(state.item_class)
+    item, block = last(state.item_class), block_with(heap, lambda p, size: True)
     if item:
-        own = state.item_class[item]
-        other, empty = class_with_items(state, own), empty_class(state, own)
-        yield "resize an item, it stays", "resize", item + 8, 8 * own + 8
-        if other is not None:
-            yield "resize an item, it moves to another class", "resize", item + 8, 8 * other + 8
-        if empty is not None:
-            yield "resize an item, it moves to a new page", "resize", item + 8, 8 * empty + 8
-            yield f"resize an item, {KEPT}", "resize", item + 8, 8 * empty + 8
-        yield "resize an item, it moves to a block", "resize", item + 8, 300
-    block = block_with(heap, lambda p, size: True)
+        yield "an item, it stays", item + 8, 8 * state.item_class[item] + 8
     if block:
-        yield "resize a block, it stays", "resize", block, state.capacity(block)
-        if class_with_items(state) is not None:
-            yield "resize a block, it moves to an item", "resize", block, 8 * class_with_items(state) + 8
-        if empty_class(state) is not None:
-            yield f"resize a block, {KEPT}", "resize", block, 8 * empty_class(state) + 8
+        yield "a block, it stays", block, state.capacity(block)
     block = block_with(heap, lambda p, size: size >= 280 + 40)
     if block:
-        yield "resize a block, it shrinks", "resize", block, state.capacity(block) - 40
+        yield "a block, it shrinks", block, state.capacity(block) - 40
     block = block_with(heap, lambda p, size: state.is_free(p + size))
     if block:
-        yield "resize a block, it grows", "resize", block, state.capacity(block) + 8
-    yield from moves_of_blocks(heap)
+        yield "a block, it grows", block, state.capacity(block) + 8
 
 
-def moves_of_blocks(heap):
-    """The largest block that cannot grow and finds room elsewhere."""
+def stuck(heap):
+    """Records that cannot have it there, whether there is room elsewhere or not."""
     state = heap.state
+    item, block = last(state.item_class), block_with(heap, lambda p, size: not state.is_free(p + size))
+    if item:
+        yield "an item, " + CANNOT_STAY, item + 8, 300
+    if block:
+        yield "a block, " + CANNOT_STAY, block, state.capacity(block) + 8
+
+
+def moving(heap):
+    """Records that cannot have it there, and go elsewhere if there is room."""
+    state = heap.state
+    item, block = last(state.item_class), block_with(heap, lambda p, size: True)
+    if item:
+        other, empty = class_with_items(state, state.item_class[item]), empty_class(state, state.item_class[item])
+        if other is not None:
+            yield "an item, it moves to another class", item + 8, 8 * other + 8
+        if empty is not None:
+            yield "an item, it moves to a new page", item + 8, 8 * empty + 8
+        yield "an item, it moves to a block", item + 8, 300
+    if block and class_with_items(state) is not None:
+        yield "a block, it moves to an item", block, 8 * class_with_items(state) + 8
+    yield from moving_blocks(state)
+
+
+def moving_blocks(state):
+    """The largest block that cannot grow and finds room elsewhere."""
     largest_free = max((state.blocks[p][1] for p in state.free), default=0)
     fits = [(size, p + 8) for p, (kind, size) in state.blocks.items()
             if kind == VARIABLE and not state.is_free(p + size) and size + 8 <= largest_free]
     if fits:
         size, address = max(fits)
-        yield "resize a large block, it moves", "resize", address, size - 16 + 8
+        yield "a large block, it moves", address, size - 16 + 8
+
+
+def kept(heap):
+    """Records that would go to a new page, where there is no room for one."""
+    state = heap.state
+    item, block = last(state.item_class), block_with(heap, lambda p, size: True)
+    if item and empty_class(state, state.item_class[item]) is not None:
+        yield "an item, " + KEPT, item + 8, 8 * empty_class(state, state.item_class[item]) + 8
+    if block and empty_class(state) is not None:
+        yield "a block, " + KEPT, block, 8 * empty_class(state) + 8
+
+
+def resizes(heap):
+    for sort in (staying, moving, kept):
+        for what, address, size in sort(heap):
+            yield f"resize {what}", "resize", address, size
+
+
+def resizes_in_place(heap):
+    for sort in (staying, stuck):
+        for what, address, size in sort(heap):
+            yield f"resize in place {what}", "resize_in_place", address, size
+
+
+def moves(heap):
+    item, record = last(heap.state.item_class), last(heap.state.live_addresses())
+    if item:
+        yield "move an item within its class", "move", item + 8, 8 * heap.state.item_class[item] + 8
+    for what, address, size in moving(heap):
+        yield f"move {what.replace(', it moves', '')}", "move", address, size
+    if record:
+        yield f"move a record, {FULL}", "move", record, LARGEST_SIZE
+
+
+def comes_out(heap, name, call, address, size):
+    """Whether the call ends as its name says."""
+    trial = Heap(bytearray(heap.data))
+    arguments = {"allocate": (size,), "free": (address,)}.get(call, (address, size))
+    refusal, _ = getattr(trial, call)(*arguments)
+    wanted = NO_ROOM if name.endswith((CANNOT_STAY, FULL)) else GRANTED
+    return refusal == wanted and bool(trial.kept) == name.endswith(KEPT)
 
 
 def calls_on(heap):
-    """What is measured on a heap: (name, call, address, size), only what is granted as its name says."""
+    """What is measured on a heap: (name, call, address, size), only what ends as its name says."""
     yield "check", "check", 0, 0
-    for sort in (allocations, frees, resizes):
-        for name, call, address, size in sort(heap):
-            trial = Heap(bytearray(heap.data))
-            arguments = {"allocate": (size,), "free": (address,), "resize": (address, size)}[call]
-            if getattr(trial, call)(*arguments)[0] == 0 and bool(trial.kept) == name.endswith(KEPT):
-                yield name, call, address, size
+    for sort in (allocations, frees, resizes, resizes_in_place, moves):
+        yield from (row for row in sort(heap) if comes_out(heap, *row))
 
 
 def build(libraries, prefix):
