@@ -71,19 +71,18 @@ install: lib
 	install -m 644 $(LIBRARY) $(PREFIX)/lib
 	sed 's|@PREFIX@|$(abspath $(PREFIX))|; s|@VERSION@|$(VERSION)|' include/jagwibodu.pc.in > $(PREFIX)/lib/pkgconfig/jagwibodu.pc
 
-# The example host in C, built with what install gives; on a heap with room, and on one in which most is refused; and the ward's
-# remark, shortened on a full heap. The pkg-config file leads to header and archive, and both hosts are C++ too.
+# The example host in C, built with what install gives; on a heap with room, and on one in which most is refused; the ward's
+# remark, shortened on a full heap; and the form editor, that asks before a record moves. The pkg-config file leads to header and
+# archive, and all are C++ too.
 INSTALLED = target/installed
+EXAMPLES = console remark editor
 example:
 	$(MAKE) --no-print-directory install PREFIX=$(INSTALLED)
-	CFLAGS='-I$(INSTALLED)/include' tools/chost examples/console.c $(INSTALLED)/lib/libjagwibodu.a > target/console.out
-	diff examples/console.out target/console.out && cat target/console.out
+	for name in $(EXAMPLES); do CFLAGS='-I$(INSTALLED)/include' tools/chost examples/$$name.c $(INSTALLED)/lib/libjagwibodu.a > target/$$name.out && diff examples/$$name.out target/$$name.out && cat target/$$name.out || exit 1; done
 	CFLAGS='-I$(INSTALLED)/include -DLENGTH=4500' tools/chost examples/console.c $(INSTALLED)/lib/libjagwibodu.a > target/console-small.out
 	diff examples/console-small.out target/console-small.out
-	CFLAGS='-I$(INSTALLED)/include' tools/chost examples/remark.c $(INSTALLED)/lib/libjagwibodu.a > target/remark.out
-	diff examples/remark.out target/remark.out && cat target/remark.out
 	if command -v pkg-config > /dev/null; then PKG_CONFIG_PATH=$(INSTALLED)/lib/pkgconfig pkg-config --cflags --libs jagwibodu | grep -q '^-I$(abspath $(INSTALLED))/include -L$(abspath $(INSTALLED))/lib -ljagwibodu *$$'; fi
-	if command -v c++ > /dev/null; then c++ -std=c++11 -Wall -Wextra -Werror -fsyntax-only -x c++ -I$(INSTALLED)/include examples/console.c examples/remark.c; fi
+	if command -v c++ > /dev/null; then c++ -std=c++11 -Wall -Wextra -Werror -fsyntax-only -x c++ -I$(INSTALLED)/include $(EXAMPLES:%=examples/%.c); fi
 
 # The figures that are run, long random runs and damaged heaps, and the stack: the library against the second program.
 compare: lib
