@@ -21,7 +21,7 @@ import time
 sys.dont_write_bytecode = True  # products belong below target/
 from damage import damaged
 from heaps import Tally
-from runs import CALLS, Run, Player, random_run, sound_heap
+from runs import CALLS, RESIZES, Run, Player, random_run, sound_heap
 from second import FIGURES, played
 
 ROOT = os.path.dirname(os.path.dirname(os.path.abspath(__file__)))
@@ -32,6 +32,7 @@ BATCH_BYTES = 16 << 20
 TIME_LIMIT = 120  # seconds for one batch, of which an emulator needs some
 STACK = struct.Struct("<QQQ")  # what the driver says last
 HEAPS_FROM_ONE = 25  # damaged heaps made from the same sound one
+REFUSED_SHARE = 4  # of so many damaged heaps one at least refuses each form of resize as not sound
 # What the random runs must meet, each at least once in so many calls.
 SHARES = {
     "resize: kept for want of room": 1000,
@@ -209,6 +210,13 @@ def figure_runs(figures, counts):
         yield run
 
 
+def count_calls(run, counts):
+    """Adds a run's calls, and what came of its resizes."""
+    counts["calls"] += run.calls
+    counts["resize: kept for want of room"] += run.heap.kept
+    counts.update(run.met)
+
+
 def random_runs(seed, number, counts):
     """Runs until there are this many calls."""
     index = 0
@@ -216,10 +224,8 @@ def random_runs(seed, number, counts):
         label = f"run:{index}"
         run = random_run(generator(seed, label), label)
         check_second(run)
-        counts["calls"] += run.calls
+        count_calls(run, counts)
         counts["heaps"] += 1
-        counts["resize: kept for want of room"] += run.heap.kept
-        counts.update(run.met)
         index += 1
         yield run
 
@@ -258,7 +264,7 @@ def all_damaged_runs(seed, number, counts):
     while counts["damaged"] < number:
         label = f"damaged:{group}"
         for run in damaged_runs(generator(seed, label), label, HEAPS_FROM_ONE, counts):
-            counts["calls"] += run.calls
+            count_calls(run, counts)
             yield run
         group += 1
 
@@ -312,6 +318,7 @@ def main():
             counts.demand({case: counts["calls"] // share for case, share in SHARES.items()})
             for run in all_damaged_runs(chosen.seed, chosen.damaged, counts):
                 driver.add(run)
+            counts.demand({f"{form}: refused with 3": counts["damaged"] // REFUSED_SHARE for form in RESIZES})
         driver.finish()
     except Difference as difference:
         report(difference, chosen.seed)
