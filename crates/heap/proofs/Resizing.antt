@@ -8,7 +8,7 @@ use Rattle.model.specs.Sound.{Here}
 use Rattle.model.specs.Calls.{Way, resizedBy}
 use Rattle.resizing.specs.declared.resize.Resized.{Resized}
 use Rattle.resizing.specs.declared.resize.Resized.the-variants as to
-use Rattle.resizing.specs.Move.{outcomeOf, ByWay}
+use Rattle.resizing.specs.Ways.{outcomeOf, ByWay}
 use Rattle.heap.specs.declared.Answer.{Answer}
 use Rattle.heap.specs.Answers.{resizedAs, outcome}
 

@@ -23,7 +23,8 @@ use Rattle.resizing.specs.declared.resize.Resized.the-variants as to
 use Rattle.engine.specs.Allocate.{Asked}
 use Rattle.find.specs.Find.{BlockFound}
 use Rattle.releasing.specs.Release.{BlockLive, Released}
-use Rattle.resizing.specs.Move.{Carried, BlockLiveAt, ByWay}
+use Rattle.resizing.specs.Move.{Carried}
+use Rattle.resizing.specs.Ways.{BlockLiveAt, ByWay}
 use Rattle.resizing.specs.Mend.{Mendable, Mended}
 use Rattle.resizing.proofs.ResizeLaws.{chosen, carried-in, moved-to, block-holds}
 use Rattle.resizing.proofs.MendLaws.{found-stands, stands-found, read-before}

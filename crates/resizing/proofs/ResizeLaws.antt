@@ -40,7 +40,8 @@ use Rattle.holding.specs.Holding.{Holds}
 use Rattle.items.specs.Items.{ItemLive, GaveItem}
 use Rattle.releasing.specs.Release.{BlockLive}
 use Rattle.reshaping.specs.Reshape.{Stays, Reshaped}
-use Rattle.resizing.specs.Move.{Holding, Carried, ItemLiveAt, BlockLiveAt, outcomeOf, keptAs, ByWay}
+use Rattle.resizing.specs.Move.{Holding, Carried}
+use Rattle.resizing.specs.Ways.{ItemLiveAt, BlockLiveAt, outcomeOf, keptAs, ByWay}
 use Rattle.resizing.proofs.MoveLaws.{taken-none, taken-some, old-live}
 
 not-nothing-item : (o c : ℕ) → thing o c ≡ nothing → ⊥

@@ -1,2 +1,3 @@
 pub mod Move
 pub mod Mend
+pub mod Ways

@@ -21,7 +21,7 @@ ghost use mathlib.Core.Path.{_≡_};
 ghost use Rattle.model.specs.Calls.{staying, moving, keeping};
 ghost use Rattle.engine.specs.Allocate.{Asked};
 ghost use Rattle.engine.specs.Ready.{Ready};
-ghost use Rattle.resizing.specs.Move.{ItemLiveAt, BlockLiveAt, keptAs, ByWay};
+ghost use Rattle.resizing.specs.Ways.{ItemLiveAt, BlockLiveAt, keptAs, ByWay};
 
 // Where a resized record stands; or that nothing is live there; or that there is no room.
 pub enum Resized {
