@@ -8,11 +8,13 @@ SHOWN ?= 200
 SEED ?= 1
 # install: where to.
 PREFIX ?= /usr/local
+# Set by the gate, where `make products` has been: then no target calls `rt`, and the comparisons can run side by side.
+BUILT ?=
 
 LIBRARY = target/staticlib/libjagwibodu.a
 VERSION = $(shell sed -n 's/.*JAGWIBODU_VERSION "\(.*\)".*/\1/p' include/jagwibodu.h)
 
-.PHONY: help test run show ask inputs same-inputs lib install example compare compare-ask compare-show compare-twin bench
+.PHONY: help test run show ask inputs same-inputs lib products install files example compare compare-ask compare-show compare-twin bench
 
 help:
 	@echo 'make run      proves the call-list program and runs it on an example (LIST=file: on that list)'
@@ -23,7 +25,7 @@ help:
 	@echo 'make test     runs every test'
 	@echo 'make bench    counts the instructions of each call, against plain C'
 
-# Everything is proved once, and the comparisons and the example run on what that left; the last line is 'N passed, 0 failed'.
+# Everything is proved once, and the comparisons and the examples run on what that left; the last line is 'N passed, 0 failed'.
 test:
 	tools/gate same-inputs compare compare-ask compare-show example
 
@@ -62,10 +64,16 @@ same-inputs:
 
 # The archive for C, in target/staticlib.
 lib:
-	rt staticlib jagwibodu
+	$(if $(BUILT),,rt staticlib jagwibodu)
 
-# Header, archive and pkg-config file, where such things go.
+# All that the comparisons and the examples run on.
+products: lib
+	rt check ask show
+
+# Header, archive and pkg-config file, where such things go; files: of the archive that is there.
 install: lib
+	$(MAKE) --no-print-directory files
+files:
 	install -d $(PREFIX)/include $(PREFIX)/lib/pkgconfig
 	install -m 644 include/jagwibodu.h $(PREFIX)/include
 	install -m 644 $(LIBRARY) $(PREFIX)/lib
@@ -76,8 +84,8 @@ install: lib
 # archive, and all are C++ too.
 INSTALLED = target/installed
 EXAMPLES = console remark editor
-example:
-	$(MAKE) --no-print-directory install PREFIX=$(INSTALLED)
+example: lib
+	$(MAKE) --no-print-directory files PREFIX=$(INSTALLED)
 	for name in $(EXAMPLES); do CFLAGS='-I$(INSTALLED)/include' tools/chost examples/$$name.c $(INSTALLED)/lib/libjagwibodu.a > target/$$name.out && diff examples/$$name.out target/$$name.out && cat target/$$name.out || exit 1; done
 	CFLAGS='-I$(INSTALLED)/include -DLENGTH=4500' tools/chost examples/console.c $(INSTALLED)/lib/libjagwibodu.a > target/console-small.out
 	diff examples/console-small.out target/console-small.out
@@ -91,12 +99,12 @@ compare: lib
 
 # Every call that reads, and the report, on random heaps, damaged ones, and bytes that are none, against the second program's.
 compare-ask:
-	rt check ask
+	$(if $(BUILT),,rt check ask)
 	python3 compare/answers.py $(ASKED) $(SEED) tools/chost -r target/bin/ask
 
 # The report program itself, a start a heap; compare-ask has many more of the same reports from a single start.
 compare-show:
-	rt check show
+	$(if $(BUILT),,rt check show)
 	python3 compare/reports.py $(SHOWN) $(SEED) $$(tools/chost -w target/bin/show)
 
 # The twin that bench measures against must itself be right.
