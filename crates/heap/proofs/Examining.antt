@@ -1,19 +1,17 @@
 -- What every call but initialise finds first, and what follows for its contract. Of document 01's heap, words of 8 bytes.
-use Prim.Native.Nat.{ℕ, _≤_}
+use Prim.Native.Nat.{ℕ}
 use mathlib.Core.Path.{_≡_, refl, sym, subst, _∙_}
 use mathlib.Core.Bool.{Bool, true, false}
 use mathlib.Core.Logic.{_⊎_, inl, inr}
 use mathlib.Core.List.{List}
-use native.Mathlib.Omega.{arith}
-use native.Mathlib.Decide.{decLe}
-use borrow.Author.Tests.{le-leb, lt-leb}
 use Rattle.words.specs.Word.{wordAt}
 use Rattle.model.specs.Shape.{wide}
 use Rattle.model.specs.Layout.{Layout}
 use Rattle.model.specs.Sound.{Here, Sound}
 use Rattle.model.specs.Refusals.{badSize}
-use Rattle.model.specs.Calls.{Outcome, refused, Lent, Checked, sized}
+use Rattle.model.specs.Calls.{Outcome, refused, Lent, GoodSize, Checked, sized}
 use Rattle.model.proofs.Sizes.{eight}
+use Rattle.model.proofs.rules.Sized.{good, bad}
 use Rattle.engine.specs.Allocate.{Asked}
 use Rattle.engine.specs.Ready.{Ready}
 use Rattle.telling.specs.Tells.{Tells}
@@ -22,7 +20,7 @@ use Rattle.heap.specs.declared.Refusal.{Refusal}
 use Rattle.heap.specs.declared.Refusal.the-variants.{BadLength, NotOpened, NotSound, BadSize, NotLive, NoRoom, AlreadyOpened}
 use Rattle.heap.specs.declared.Verdict.{Verdict}
 use Rattle.heap.specs.declared.Verdict.the-variants.{Fine, Unfit}
-use Rattle.heap.specs.Answers.{refusalNumber, UnfitFor, Examined, GoodSize, ExaminedFor}
+use Rattle.heap.specs.Answers.{refusalNumber, UnfitFor, Examined, ExaminedFor}
 
 module _ (b : List ℕ) where
   pub examined-length : (Lent wide b → ⊥) → Examined b (Unfit BadLength)
@@ -79,11 +77,11 @@ module _ (b : List ℕ) where
 
 -- a call that has a size
 module _ (b : List ℕ) (n : ℕ) where
-  pub fit-for : (v : Verdict) → Examined b v → v ≡ Fine → (r : Bool) → Tells r (GoodSize n) → r ≡ true → ExaminedFor b n Fine
+  pub fit-for : (v : Verdict) → Examined b v → v ≡ Fine → (r : Bool) → Tells r (GoodSize wide n) → r ≡ true → ExaminedFor b n Fine
   unfolding ExaminedFor
   fit-for v x e r t f = (subst (λ (y : Verdict). Examined b y) e x, t .yes-is f)
 
-  pub bad-for : (v : Verdict) → Examined b v → v ≡ Fine → (r : Bool) → Tells r (GoodSize n) → r ≡ false → ExaminedFor b n (Unfit BadSize)
+  pub bad-for : (v : Verdict) → Examined b v → v ≡ Fine → (r : Bool) → Tells r (GoodSize wide n) → r ≡ false → ExaminedFor b n (Unfit BadSize)
   unfolding ExaminedFor
   bad-for v x e r t f = inr (refl, subst (λ (y : Verdict). Examined b y) e x, λ g. clash r f (t .is-yes g))
 
@@ -91,37 +89,25 @@ module _ (b : List ℕ) (n : ℕ) where
   unfolding ExaminedFor
   unfit-for v k x e = inl (subst (λ (y : Verdict). Examined b y) e x)
 
-  -- the rule of a size that is bad, and of one that is good
-  bad-size : (next : Outcome) → (GoodSize n → ⊥) → refused b badSize ≡ sized wide n b next
-  bad-size next bad = go (decLe 1 n) (decLe n (wide .most))
-    where
-      go : Dec (1 ≤ n) → Dec (n ≤ wide .most) → refused b badSize ≡ sized wide n b next
-      go (no l) d = rw (lt-leb 1 n (omega arith)) refl
-      go (yes l) (no m) = rw (le-leb 1 n l, lt-leb n (wide .most) (omega arith)) refl
-      go (yes l) (yes m) = absurd (bad (l, m))
-
-  good-size : (next : Outcome) → GoodSize n → sized wide n b next ≡ next
-  good-size next g = rw (le-leb 1 n (g .0), le-leb n (wide .most) (g .1)) refl
-
   pub sized-refuses : (next : Layout → Outcome) (v : Verdict) (k : Refusal) → ExaminedFor b n v → v ≡ Unfit k → Checked wide b (refused b) (λ L. sized wide n b (next L)) (refused b (refusalNumber k))
   unfolding ExaminedFor
   sized-refuses next v k x e = go (subst (λ (y : Verdict). ExaminedFor b n y) e x)
     where
-      go : Examined b (Unfit k) ⊎ ((k ≡ BadSize) × Examined b Fine × (GoodSize n → ⊥)) → Checked wide b (refused b) (λ L. sized wide n b (next L)) (refused b (refusalNumber k))
+      go : Examined b (Unfit k) ⊎ ((k ≡ BadSize) × Examined b Fine × (GoodSize wide n → ⊥)) → Checked wide b (refused b) (λ L. sized wide n b (next L)) (refused b (refusalNumber k))
       go (inl u) = refuses b (refused b) (λ L. sized wide n b (next L)) (Unfit k) k u refl
       go (inr u) =
           subst (λ (j : Refusal). Checked wide b (refused b) (λ L. sized wide n b (next L)) (refused b (refusalNumber j))) (sym (u .0))
-          (decides b (refused b) (λ L. sized wide n b (next L)) Fine (u .1) refl (refused b badSize) (λ L h. bad-size (next L) (u .2)))
+          (decides b (refused b) (λ L. sized wide n b (next L)) Fine (u .1) refl (refused b badSize) (λ L h. rw (bad wide n (u .2)) refl))
 
   pub sized-decides : (next : Layout → Outcome) (v : Verdict) → ExaminedFor b n v → v ≡ Fine → (r : Outcome) → ((L : Layout) → Here wide b L → r ≡ next L) → Checked wide b (refused b) (λ L. sized wide n b (next L)) r
   unfolding ExaminedFor
   sized-decides next v x e r d =
-      let y : Examined b Fine × GoodSize n = subst (λ (z : Verdict). ExaminedFor b n z) e x in
-      decides b (refused b) (λ L. sized wide n b (next L)) Fine (y .0) refl r (λ L h. d L h ∙ sym (good-size (next L) (y .1)))
+      let y : Examined b Fine × GoodSize wide n = subst (λ (z : Verdict). ExaminedFor b n z) e x in
+      decides b (refused b) (λ L. sized wide n b (next L)) Fine (y .0) refl r (λ L h. rw (good wide n (y .1)) (d L h))
 
   -- what the engine then asks for
   pub ready-for : (v : Verdict) → ExaminedFor b n v → v ≡ Fine → Ready 8 b × Asked 8 n
   unfolding ExaminedFor
   ready-for v x e =
-      let y : Examined b Fine × GoodSize n = subst (λ (z : Verdict). ExaminedFor b n z) e x in
+      let y : Examined b Fine × GoodSize wide n = subst (λ (z : Verdict). ExaminedFor b n z) e x in
       (ready b Fine (y .0) refl, record { some-byte = y .1 .0; most = y .1 .1 })

@@ -1,12 +1,12 @@
 -- What an answer means: document 01's number, address and bytes.
-use Prim.Native.Nat.{ℕ, _≤_}
+use Prim.Native.Nat.{ℕ}
 use mathlib.Core.Path.{_≡_}
 use mathlib.Core.Logic.{_⊎_}
 use mathlib.Core.List.{List}
 use Rattle.model.specs.Shape.{wide}
 use Rattle.model.specs.Sound.{Sound}
 use Rattle.model.specs.Refusals.{badLength, notOpened, notSound, badSize, notLive, noRoom, alreadyOpened}
-use Rattle.model.specs.Calls.{Outcome, refused, granted, Lent, Opened}
+use Rattle.model.specs.Calls.{Outcome, refused, granted, Lent, Opened, GoodSize}
 use Rattle.engine.specs.declared.allocate.Taken.{Taken}
 use Rattle.engine.specs.declared.allocate.Taken.the-variants as taken
 use Rattle.resizing.specs.declared.resize.Resized.{Resized}
@@ -48,12 +48,9 @@ Examined b Fine = Lent wide b × Sound wide b
 Examined b (Unfit k) = UnfitFor b k
 
 -- of a call that has a size: the same, and then 4 where the size is bad
-abbrev pub GoodSize : ℕ → Type 0
-GoodSize n = (1 ≤ n) × (n ≤ wide .most)
-
 unfoldable pub ExaminedFor : List ℕ → ℕ → Verdict → Type 0
-ExaminedFor b n Fine = Examined b Fine × GoodSize n
-ExaminedFor b n (Unfit k) = Examined b (Unfit k) ⊎ ((k ≡ BadSize) × Examined b Fine × (GoodSize n → ⊥))
+ExaminedFor b n Fine = Examined b Fine × GoodSize wide n
+ExaminedFor b n (Unfit k) = Examined b (Unfit k) ⊎ ((k ≡ BadSize) × Examined b Fine × (GoodSize wide n → ⊥))
 
 -- what an allocation found, as an answer
 abbrev pub answerOf : Taken → Answer

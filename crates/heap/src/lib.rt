@@ -33,9 +33,9 @@ ghost use mathlib.Core.Path.{_≡_};
 ghost use Prim.Native.Nat.{_≤_};
 ghost use Rattle.model.specs.Shape.{wide};
 ghost use Rattle.model.specs.Refusals.{alreadyOpened};
-ghost use Rattle.model.specs.Calls.{Lent, Initialises, Checks, Allocates, Frees};
+ghost use Rattle.model.specs.Calls.{Lent, GoodSize, Initialises, Checks, Allocates, Frees};
 ghost use Rattle.telling.specs.Tells.{Tells};
-ghost use Rattle.heap.specs.Answers.{GoodSize, Examined, ExaminedFor, answerOf, outcome, refusalNumber};
+ghost use Rattle.heap.specs.Answers.{Examined, ExaminedFor, answerOf, outcome, refusalNumber};
 
 // The bytes of a word of document 01's heap.
 pub const WORD: usize = 8;
@@ -131,7 +131,7 @@ pub fn check(h: &[u8]) -> Answer
 
 // Whether n bytes can be asked for.
 fn is_size(n: usize) -> bool
-    ensures { λ r. ⌜ Tells r (GoodSize n) ⌝ }
+    ensures { λ r. ⌜ Tells r (GoodSize wide n) ⌝ }
 {
     if n == 0 {
         return false;

@@ -1,5 +1,6 @@
 pub mod Fresh
 pub mod Allocation
+pub mod Sized
 pub mod Room
 pub mod OnLayouts
 pub mod ResizeWays

@@ -56,6 +56,10 @@ module _ (S : Shape) where
   abbrev pub Opened : List ℕ → Type 0
   Opened b = wordAt magicBytes b 0 ≡ S .magic
 
+  -- n bytes can be asked for
+  abbrev pub GoodSize : ℕ → Type 0
+  GoodSize n = (1 ≤ n) × (n ≤ S .most)
+
   -- the bytes with a layout's picture drawn over them
   abbrev pub drawn : Layout → List ℕ → List ℕ
   drawn L b = draw (S .word) (words S (endOf (length b)) L) b

@@ -4,9 +4,7 @@ use mathlib.Core.Path.{_≡_, refl, sym, ap, subst, _∙_}
 use mathlib.Core.List.{List}
 use mathlib.Core.Option.{Option, none, some}
 use native.Mathlib.Omega.{arith}
-use native.Mathlib.Decide.{decLe}
 use lib.ListN.{length}
-use borrow.Author.Tests.{le-leb, lt-leb}
 use Rattle.words.specs.Width.{Width}
 use Rattle.words.specs.Word.{Bytes}
 use Rattle.model.specs.Shape.{shape, endOf}
@@ -14,7 +12,7 @@ use Rattle.model.specs.Layout.{Layout, words}
 use Rattle.model.specs.Sound.{Valid, Here}
 use Rattle.model.specs.Rules.{Made, Found, block, thing, nothing, allocate, find, freed}
 use Rattle.model.specs.Refusals.{notLive, noRoom}
-use Rattle.model.specs.Calls.{Outcome, refused, granted, Lent, drawn, sized, found, allocated, without}
+use Rattle.model.specs.Calls.{Outcome, refused, granted, Lent, GoodSize, drawn, sized, found, allocated, without}
 use Rattle.model.specs.Promises.{Call, initialising, checking, allocating, freeing, resizing, resizingBy, Comes, Plain}
 use Rattle.model.proofs.Good.{shape-good}
 use Rattle.model.proofs.pictures.Pictures.{length-draw, bytes-draw}
@@ -22,6 +20,7 @@ use Rattle.model.proofs.pictures.Drawn.{drawn-here, drawn-same}
 use Rattle.model.proofs.lives.LiveFound.{isThere}
 use Rattle.model.proofs.lives.FreeLives.{freed-removes}
 use Rattle.model.proofs.rules.Allocation.{allocate-grants}
+use Rattle.model.proofs.rules.Sized.{good, bad, good-or-bad}
 use Rattle.model.proofs.rules.OnLayouts.{Done, refuse, grant, sizedOn, doing}
 
 module _ {w : ℕ} (wd : Width w) where
@@ -57,12 +56,11 @@ module _ {w : ℕ} (wd : Width w) where
     drew a M v = record { refusal = refl; address = refl; same = drawn-length M; here = draws M v; bytes = drawn-bytes M; still = redrawn M }
 
     pub sized-does : (n : ℕ) (o : Outcome) (d : Done) → (1 ≤ n → Does b L o d) → Does b L (sized (shape w) n b o) (sizedOn (shape w) n L d)
-    sized-does n o d x = go (decLe 1 n) (decLe n (shape w .most))
+    sized-does n o d x = go (good-or-bad (shape w) n)
       where
-        go : Dec (1 ≤ n) → Dec (n ≤ (shape w .most)) → Does b L (sized (shape w) n b o) (sizedOn (shape w) n L d)
-        go (no i) j = rw (lt-leb 1 n (omega arith)) (left _ _)
-        go (yes i) (no j) = rw (le-leb 1 n i, lt-leb n (shape w .most) (omega arith)) (left _ _)
-        go (yes i) (yes j) = rw (le-leb 1 n i, le-leb n (shape w .most) j) (x i)
+        go : Dec (GoodSize (shape w) n) → Does b L (sized (shape w) n b o) (sizedOn (shape w) n L d)
+        go (yes g) = rw (good (shape w) n g) (x (g .0))
+        go (no g) = rw (bad (shape w) n g) (left _ _)
 
     allocating-does : (n : ℕ) → Does b L (sized (shape w) n b (allocated (shape w) b n L)) (doing (shape w) (allocating n) L)
     unfolding doing

@@ -3,13 +3,12 @@ use Prim.Native.Nat.{ℕ, _≤_}
 use mathlib.Core.Path.{_≡_, sym, ap, _∙_}
 use mathlib.Core.List.{List}
 use native.Mathlib.Omega.{arith}
-use native.Mathlib.Decide.{decLe}
-use borrow.Author.Tests.{le-leb, lt-leb}
 use Rattle.model.specs.Shape.{Shape}
 use Rattle.model.specs.Layout.{Layout}
 use Rattle.model.specs.Sound.{Here, Sound}
 use Rattle.model.specs.Refusals.{badSize}
-use Rattle.model.specs.Calls.{Outcome, refused, Lent, Opened, Checked, sized}
+use Rattle.model.specs.Calls.{Outcome, refused, Lent, Opened, GoodSize, Checked, sized}
+use Rattle.model.proofs.rules.Sized.{good, bad, good-or-bad}
 
 module _ (S : Shape) (b : List ℕ) {P : Type 0} where
   -- for every call but initialise
@@ -31,16 +30,15 @@ module _ (S : Shape) (b : List ℕ) {P : Type 0} where
 -- what came of a call with a size
 module _ (S : Shape) (b : List ℕ) (n : ℕ) (o r : Outcome) (e : r ≡ sized S n b o) where
   pub good-size : 1 ≤ n → n ≤ S .most → r ≡ o
-  good-size one most = rw (le-leb 1 n one, le-leb n (S .most) most) at e
+  good-size one most = rw (good S n (one, most)) at e
 
   -- none is granted for a bad size
   pub granted-size : r .refusal ≡ 0 → (1 ≤ n) × (r ≡ o)
-  granted-size g = go (decLe 1 n) (decLe n (S .most))
+  granted-size g = go (good-or-bad S n)
     where
       not-bad : r ≡ refused b badSize → ⊥
       not-bad f = omega (arith, g, ap (λ (x : Outcome). x .refusal) f)
 
-      go : Dec (1 ≤ n) → Dec (n ≤ S .most) → (1 ≤ n) × (r ≡ o)
-      go (no i) j = absurd (not-bad (rw (lt-leb 1 n (omega arith)) at e))
-      go (yes i) (no j) = absurd (not-bad (rw (le-leb 1 n i, lt-leb n (S .most) (omega arith)) at e))
-      go (yes i) (yes j) = (i, good-size i j)
+      go : Dec (GoodSize S n) → (1 ≤ n) × (r ≡ o)
+      go (yes s) = (s .0, good-size (s .0) (s .1))
+      go (no s) = absurd (not-bad (rw (bad S n s) at e))
