@@ -139,7 +139,7 @@ fn is_size(n: usize) -> bool
     n <= longest(WORD)
 }
 
-// The same of a call that has a size, and then the size.
+// What `examine` finds, and then whether n bytes can be asked for.
 fn examine_for(h: &[u8], n: usize) -> Verdict
     ensures { λ r. ⌜ ExaminedFor (now (h .entry)) n r ⌝ }
 {
