@@ -4,4 +4,5 @@ mod Allocating
 mod Freeing
 mod Resizing
 mod Answering
+pub mod Outcomes
 pub mod Together

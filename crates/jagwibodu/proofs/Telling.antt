@@ -1,11 +1,12 @@
 -- An answer's number does not depend on the bytes, so it tells the outcome. Of document 01's heap, words of 8 bytes.
 use Prim.Native.Nat.{ℕ, _*_}
-use mathlib.Core.Path.{_≡_, refl, _∙_}
+use mathlib.Core.Path.{_≡_, refl, sym, _∙_}
 use mathlib.Core.List.{List, []}
 use native.Mathlib.Omega.{arith}
 use Rattle.model.specs.declared.Address.{Address}
 use Rattle.model.specs.Calls.{Outcome, number}
 use Rattle.heap.specs.Answers.{refusalNumber, outcome}
+use Rattle.heap.proofs.Outcomes.{heap-of}
 use Rattle.heap.specs.declared.Refusal.{Refusal}
 use Rattle.heap.specs.declared.Answer.{Answer}
 use Rattle.heap.specs.declared.Answer.the-variants.{Granted, Refused}
@@ -17,11 +18,7 @@ number-same (Refused k) b c = refl
 
 pub told : (allows : Outcome → Type 0) (r : Answer) (n : ℕ) (b : List ℕ) → allows (outcome r b) → n ≡ number (outcome r []) → Numbered allows n b
 told allows r n b a e =
-    record { outcome = outcome r b; allowed = a; number = e ∙ number-same r [] b; heap = go r b }
-  where
-    go : (r : Answer) (b : List ℕ) → b ≡ outcome r b .heap
-    go (Granted a) b = refl
-    go (Refused k) b = refl
+    record { outcome = outcome r b; allowed = a; number = e ∙ number-same r [] b; heap = sym (heap-of r b) }
 
 -- what the two ways through `number` give
 pub number-granted : (r : Answer) (a : Address) → r ≡ Granted a → a .0 ≡ number (outcome r [])

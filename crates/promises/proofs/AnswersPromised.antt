@@ -1,6 +1,6 @@
 -- Demands 1 and 2 of what the calls of crate `heap` answer: those of outcomes, through what an answer means.
 use Prim.Native.Nat.{ℕ}
-use mathlib.Core.Path.{_≡_, refl, sym, ap, _∙_}
+use mathlib.Core.Path.{_≡_, refl, sym, ap, subst, _∙_}
 use mathlib.Core.Logic.{_↔_, Iff·trans}
 use mathlib.Core.List.{List, []}
 use native.Mathlib.Omega.{arith}
@@ -25,6 +25,7 @@ use Rattle.heap.specs.declared.Refusal.{Refusal}
 use Rattle.heap.specs.declared.Refusal.the-variants as why
 use Rattle.heap.specs.declared.counting.Counted.{Counted}
 use Rattle.heap.specs.Answers.{outcome, refusalNumber}
+use Rattle.heap.proofs.Outcomes.{heap-of}
 use Rattle.heap.specs.Counting.{toldCounted, TableTold}
 use Rattle.promises.specs.Answered.{AnswersPromised}
 use Rattle.promises.proofs.Stable.{numbers}
@@ -85,7 +86,7 @@ answers-promised =
       refused-untouched = λ b q k c x. ap (λ (o : Outcome). o .heap) (wide-promised .refused-untouched b q (outcome (Refused k) c) x (λ e. omega (arith, e, refusal-some k)));
       answers-only = λ b q r c x. wide-promised .answers-only b q (outcome r c) x;
       accepts-exactly = λ b r c x. Iff·trans (is-granted r c) (wide-promised .accepts-exactly b (outcome r c) x);
-      stays-sound = λ b q r c x s. heap-of r c (wide-promised .stays-sound b q (outcome r c) x s);
+      stays-sound = λ b q r c x s. subst (λ (d : List ℕ). Sound wide d) (heap-of r c) (wide-promised .stays-sound b q (outcome r c) x s);
       opens-sound = λ b a c x. wide-promised .opens-sound b (outcome (Granted a) c) x refl;
       allocate-keeps = λ b n a c L L′ l h x k. wide-promised .allocate-keeps b n (granted (a .0) c) L L′ (record { lent = l; here = h; comes = x; granted = refl; then = k });
       free-keeps = λ b a y c L L′ l h x k. wide-promised .free-keeps b a (granted (y .0) c) L L′ (record { lent = l; here = h; comes = x; granted = refl; then = k });
@@ -110,10 +111,6 @@ answers-promised =
       columns-add = columns-told;
     }
   where
-    heap-of : (r : Answer) (c : List ℕ) → Sound wide (outcome r c .heap) → Sound wide c
-    heap-of (Granted a) c s = s
-    heap-of (Refused k) c s = s
-
     sure-nothing : (f : Found) → ((f ≡ nothing → ⊥) → ⊥) → f ≡ nothing
     sure-nothing nothing n = refl
     sure-nothing (block t) n = absurd (n (λ e. omega (arith, ap isThere e)))

@@ -13,7 +13,7 @@ use Rattle.model.specs.Rules.{Found, block, thing, nothing, find, freed}
 use Rattle.model.specs.Live.{_∈_, Payload, live}
 use Rattle.model.specs.Refusals.{notLive}
 use Rattle.model.specs.Calls.{Outcome, refused, granted, drawn, found, without}
-use Rattle.model.specs.Promises.{FreeKept, Comes, Kept, FreeKeeps}
+use Rattle.model.specs.Promises.{FreeKept, Comes, FreeKeeps}
 use Rattle.model.proofs.Good.{shape-good}
 use Rattle.model.proofs.lives.Payloads.{content-kept}
 use Rattle.sound.proofs.OneLayout.{one-layout}

@@ -1,20 +1,20 @@
 -- How much room an allocation needs on a fresh heap: document 01's two figures, for every length. At 8 bytes a word only, as the figures are.
 use Prim.Native.Nat.{ℕ, zero, suc, _+_, _-_, _%_, _≤_, _<_}
 use mathlib.Core.Path.{_≡_, refl, sym, ap, _∙_}
-use mathlib.Core.List.{List, [], _∷_}
+use mathlib.Core.List.{List, []}
 use mathlib.Core.Logic.{_↔_, inl, ⊎-elim}
 use mathlib.Core.Option.{Option, none, some, Option·none-ne-some}
 use native.Mathlib.Omega.{arith}
 use lib.ListN.{length, getD, replicate}
 use borrow.Author.Tests.{le-leb}
 use Rattle.model.specs.Shape.{wide, start, largestItem, classOf, pageNeed, endOf}
-use Rattle.model.specs.Layout.{Block, free, Layout}
+use Rattle.model.specs.Layout.{free}
 use Rattle.model.specs.Sound.{Here}
 use Rattle.model.specs.Rules.{Made, allocate, fresh}
 use Rattle.model.specs.Live.{_∈_}
 use Rattle.model.specs.Refusals.{noRoom}
-use Rattle.model.specs.Calls.{Outcome, Lent, drawn, made, allocated, Initialises, Allocates}
-use Rattle.model.specs.Promises.{NoBlock, NoRoom}
+use Rattle.model.specs.Calls.{Outcome, Lent, allocated}
+use Rattle.model.specs.Promises.{NoRoom}
 use Rattle.model.proofs.Sizes.{eight, per-page-bound}
 use Rattle.model.proofs.rules.Room.{no-room}
 use Rattle.promises.specs.Figures.{Needs}

@@ -13,8 +13,8 @@ use Rattle.model.specs.Shape.{wide}
 use Rattle.model.specs.Sound.{Sound}
 use Rattle.model.specs.Reading as reading
 use Rattle.model.specs.Reading.{aFree, aVariable, aPage, theEnd}
-use Rattle.model.specs.Calls.{Outcome, Told, Lent, number, Initialises, Allocates, Frees, Resizes, Steps, Counts}
-use Rattle.model.specs.Promises.{Call, initialising, allocating, freeing, resizing, Comes}
+use Rattle.model.specs.Calls.{Outcome, Told, Lent, number, Initialises, Allocates, Frees, Resizes}
+use Rattle.model.specs.Promises.{initialising, allocating, freeing, resizing, Comes}
 use Rattle.reading.specs.declared.stepping.Kind.{Kind}
 use Rattle.reading.specs.declared.stepping.Kind.the-variants.{Free, Variable, Page, End}
 use Rattle.reading.specs.Stepping.{toldKind}
@@ -27,14 +27,13 @@ use Rattle.heap.specs.declared.Verdict.the-variants.{Fine, Unfit}
 use Rattle.heap.specs.declared.counting.Counted.{Counted}
 use Rattle.heap.specs.declared.walking.Step.{Step}
 use Rattle.heap.specs.Answers.{outcome, refusalNumber, UnfitFor, Examined}
-use Rattle.heap.specs.Counting.{toldCounted, TableTold}
+use Rattle.heap.specs.Counting.{toldCounted}
 use Rattle.heap.specs.Walking.{toldStep}
-use Rattle.heap.specs.Lookup.{Part, RefusalTold}
-use Rattle.jagwibodu.specs.Numbers.{Numbered}
+use Rattle.heap.specs.Lookup.{Part}
 use Rattle.records.specs.declared.Line.{Line}
 use Rattle.records.specs.declared.Played.{Played}
-use Rattle.records.specs.Lines.{Called, CountsIn, OpensIn, CallPlayed, Plays, noLine, clip}
-use Rattle.promises.specs.Answered.{MayAnswer, OneResult}
+use Rattle.records.specs.Lines.{Called, CountsIn, OpensIn, CallPlayed, Plays, clip}
+use Rattle.promises.specs.Answered.{OneResult}
 use Rattle.promises.proofs.Stable.{numbers, lists, tolds, steps, statistics}
 use Rattle.promises.proofs.Determined.{checked-one, determined}
 

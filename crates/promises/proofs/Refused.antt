@@ -9,10 +9,10 @@ use Rattle.model.specs.Shape.{Shape}
 use Rattle.model.specs.Layout.{Layout}
 use Rattle.model.specs.Rules.{Made, Found, block, thing, nothing, allocate, find}
 use Rattle.model.specs.Refusals.{badLength, notOpened, notSound, badSize, notLive, alreadyOpened}
-use Rattle.model.specs.Calls.{Outcome, refused, granted, Checked, sized, found, made, allocated, drawn, without, movedBytes, resized, resizedBy, Initialises}
+use Rattle.model.specs.Calls.{Outcome, refused, granted, Checked, sized, found, made, allocated, drawn, without, resized, resizedBy, Initialises}
 use Rattle.model.specs.Promises.{initialising, checking, allocating, freeing, resizing, resizingBy, Comes, RefusedUntouched}
 use Rattle.model.proofs.rules.OnLayouts.{Done}
-use Rattle.model.proofs.rules.ResizeWays.{Went, nowhere, inPlace, elsewhere, asItIs, noWay, went, went-by}
+use Rattle.model.proofs.rules.ResizeWays.{Went, went, went-by, went-plain}
 use Rattle.promises.proofs.Stable.{outcomes}
 use Rattle.promises.proofs.Cases.{checked-cases, opening-cases}
 
@@ -47,13 +47,6 @@ module _ (b : List ℕ) where
     made-plain none heap = λ n. refl
     made-plain (some m) heap = as-granted (m .at) (heap m)
 
-    went-plain : (a n : ℕ) (L : Layout) {o : Outcome} {d : Done} → Went S b a n L o d → Plainly o
-    went-plain a n L (nowhere e) = λ n. refl
-    went-plain a n L (inPlace i M s) = as-granted a (drawn S M b)
-    went-plain a n L (elsewhere i m k) = as-granted (m .at) (movedBytes S b a n L m)
-    went-plain a n L (asItIs i c) = as-granted a b
-    went-plain a n L (noWay i) = λ n. refl
-
     checked-plain : (rule : Layout → Outcome) → ((L : Layout) → Plainly (rule L)) → (r : Outcome) → Checked S b (refused b) rule r → Plainly r
     checked-plain rule p r c n =
         outcomes r (refused b (r .refusal))
@@ -61,7 +54,7 @@ module _ (b : List ℕ) where
 
     -- a resize of any form
     resizing-plain : (a n : ℕ) (rule : Layout → Outcome) {on : Layout → Done} → ((L : Layout) → Went S b a n L (rule L) (on L)) → (r : Outcome) → Checked S b (refused b) (λ L. sized S n b (rule L)) r → Plainly r
-    resizing-plain a n rule x r c = checked-plain (λ L. sized S n b (rule L)) (λ L. sized-plain n (rule L) (went-plain a n L (x L))) r c
+    resizing-plain a n rule x r c = checked-plain (λ L. sized S n b (rule L)) (λ L. sized-plain n (rule L) (went-plain S b a n L (x L))) r c
 
     opened-plain : (r : Outcome) → Initialises S b r → Plainly r
     opened-plain r c n =

@@ -12,13 +12,10 @@ use Rattle.model.proofs.rules.ResizeWays.{split-gives}
 use Rattle.heap.specs.declared.Answer.{Answer}
 use Rattle.heap.specs.declared.Answer.the-variants.{Granted, Refused}
 use Rattle.heap.specs.Answers.{refusalNumber, outcome}
+use Rattle.heap.proofs.Outcomes.{heap-of}
 use Rattle.trying.specs.Trying.{isNoRoom}
 
--- what an answer says, and the bytes then
-heap-of : (r : Answer) (c : List ℕ) → outcome r c .heap ≡ c
-heap-of (Granted a) c = refl
-heap-of (Refused k) c = refl
-
+-- what an answer says
 six : (r : Answer) (c : List ℕ) → isNoRoom r ≡ true → outcome r c .refusal ≡ noRoom
 six (Granted a) c e = absurd (false≢true e)
 six (Refused k) c e = eqb-true (refusalNumber k) noRoom e

@@ -164,19 +164,19 @@ module _ (S : Shape) (b : List ℕ) (a n : ℕ) (L : Layout) where
     unfolding resized
     shut-kept s m c = rw (found-there {A = Outcome} (find S a L) i, s, m, le-leb n (capacity S (find S a L)) c) refl
 
-  -- one way that says "no room" leaves the heap as it was
-  six-leaves : {o : Outcome} {d : Done} → Went o d → o .refusal ≡ noRoom → o .heap ≡ b
-  six-leaves (nowhere f) e = refl
-  six-leaves (inPlace i M s) e = absurd (omega (arith, e))
-  six-leaves (elsewhere i m k) e = absurd (omega (arith, e))
-  six-leaves (asItIs i c) e = refl
-  six-leaves (noWay i) e = refl
+  -- a resize of any form that is not granted leaves the heap as it was
+  pub went-plain : {o : Outcome} {d : Done} → Went o d → (o .refusal ≡ 0 → ⊥) → o ≡ refused b (o .refusal)
+  went-plain (nowhere f) z = refl
+  went-plain (inPlace i M s) z = absurd (z refl)
+  went-plain (elsewhere i m k) z = absurd (z refl)
+  went-plain (asItIs i c) z = absurd (z refl)
+  went-plain (noWay i) z = refl
 
   sized-leaves : (v : Way) → sized S n b (resizedBy S v b a n L) .refusal ≡ noRoom → sized S n b (resizedBy S v b a n L) .heap ≡ b
   sized-leaves v = go (leb 1 n && leb n (S .most))
     where
       go : (y : Bool) → cond y (resizedBy S v b a n L) (refused b badSize) .refusal ≡ noRoom → cond y (resizedBy S v b a n L) (refused b badSize) .heap ≡ b
-      go true e = six-leaves (went-by v) e
+      go true e = ap (λ (o : Outcome). o .heap) (went-plain (went-by v) (λ z. omega (arith, e, z)))
       go false e = refl
 
   sized-in-turn : sized S n b (resized S b a n L) ≡ orNext (sized S n b (resizedBy S staying b a n L)) (orNext (sized S n b (resizedBy S moving b a n L)) (sized S n b (resizedBy S keeping b a n L)))
