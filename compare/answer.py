@@ -8,7 +8,7 @@ import sys
 import zlib
 
 sys.dont_write_bytecode = True
-from report import report
+from report import forget, granted, report
 from second import DATA_AREA, WORD, Heap
 
 LOOK_UP, STEP, FIRST_STEP, STATISTICS, TABLE, REPORT, TURN_OVER = range(7)
@@ -77,9 +77,10 @@ def sample():
     """A heap with every kind of block, and with live and free items; its length is no multiple of 8."""
     heap = Heap(bytearray(b"\x11" * 6001))
     heap.initialise()
-    addresses = [heap.allocate(size)[1] for size in (300, 500, 280, 200, 199, 198)]
+    addresses = [heap.allocate(size)[1] for size in (300, 500, 280, 200, 199, 198, 197)]
     heap.free(addresses[1])
     heap.free(addresses[4])
+    forget(heap, addresses[5])
     return heap.data
 
 
@@ -99,8 +100,25 @@ def ask_everything(asked):
             asked.ask(kind, address)
 
 
+def remarks():
+    """A remark of 13 bytes with stale ones behind it, on three heaps: as it is, with its size not known, and resized
+    in place to 9; each with a look-up, the payload turned over, and a look-up again."""
+    heap = Heap(bytearray(b"\x11" * 4432))
+    granted(heap.initialise())
+    address = granted(heap.allocate(13))
+    heap.data[address:address + 16] = b"left temporalxyz"
+    older, shorter = Heap(bytearray(heap.data)), Heap(bytearray(heap.data))
+    forget(older, address)
+    granted(shorter.resize_in_place(address, 9))
+    for heap in (heap, older, shorter):
+        asked = Asked(heap.data)
+        for kind in (LOOK_UP, TURN_OVER, LOOK_UP):
+            asked.ask(kind, address)
+        yield asked
+
+
 def example():
-    """The sample, one that is damaged, one that is not opened, two that are too short, and a question
+    """The sample, one that is damaged, one that is not opened, two that are too short, the remarks, and a question
     that there is not."""
     sound = sample()
     damaged, closed = bytearray(sound), bytearray(sound)
@@ -109,6 +127,7 @@ def example():
     all_asked = [Asked(data) for data in (sound, damaged[:344], closed[:344], b"", bytes(343))]
     for asked in all_asked:
         ask_everything(asked)
+    all_asked += remarks()
     answers = "".join(answer for asked in all_asked for answer in asked.answers)
     none_such = WORD.pack(0) + WORD.pack(1) + bytes([TURN_OVER + 1]) + WORD.pack(0)
     return b"".join(asked.given() for asked in all_asked) + none_such, answers + NO_QUESTION

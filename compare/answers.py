@@ -16,6 +16,7 @@ from answer import (CUT_SHORT, FIRST_STEP, LOOK_UP, NO_QUESTION, REPORT, STATIST
 from heaps import LONG, Tally, enough_heaps, note, some_heaps
 from second import DATA_AREA, LONGEST, VARIABLE, WORD
 
+LIVE = ("live block", "live item", "older item")  # an older item is one whose size is not known
 HUGE = (2**32, 2**63, 2**64 - 8, 2**64 - 1)
 STEPS_OF_A_LONG_HEAP = 20
 
@@ -27,13 +28,14 @@ def some(rng, places, most):
 
 
 def addresses(rng, state, length):
-    """Addresses of each kind, by its name. Only those of the first two kinds are live."""
+    """Addresses of each kind, by its name. Only those of the kinds in LIVE are live."""
     blocks = [p + 8 for p in state.starts if state.blocks[p][0] == VARIABLE]
-    items = [p + 8 for p in state.item_class]
+    items, older = [p + 8 for p in state.asked], [p + 8 for p in state.item_class if p not in state.asked]
     free_items = [p + 8 for items_of_class in state.lists for p in items_of_class]
-    live = some(rng, blocks + items, 3)
+    live = some(rng, blocks + items + older, 3)
     inside = [a + rng.randrange(1, state.capacity(a)) for a in live]
     return {"live block": some(rng, blocks, 4), "live item": some(rng, items, 4),
+            "older item": some(rng, older, 4),
             "free block": [p + 8 for p in some(rng, state.free, 2)], "free item": some(rng, free_items, 2),
             "page": [p + 8 for p in some(rng, state.page_class, 2)],
             "inside": inside, "near": [a + 8 for a in live] + [a - 8 for a in live],
@@ -56,6 +58,7 @@ def ask_places(rng, asked, state, tally):
         for address in found:
             asked.ask(LOOK_UP, address)
             tally[f"look-up, {what}{refused}"] += 1
+            tally["look-up of less than it holds"] += not refused and state.shown(address) != state.capacity(address)
     for what, found in positions(rng, state, len(asked.start)).items():
         for position in found:
             asked.ask(STEP, position)
@@ -80,11 +83,12 @@ def ask_walk(asked, state, tally):
 def ask_writing(rng, asked, state, tally):
     """Payloads lent for writing, and places where nothing is; then what all of them and some others hold."""
     chosen = addresses(rng, state, len(asked.start))
-    written = some(rng, chosen["live block"] + chosen["live item"], 3)
+    live = [address for what in LIVE for address in chosen[what]]
+    written = some(rng, live, 3)
     for address in written + [0, rng.choice(chosen["past the end"] + chosen["inside"])]:
         asked.ask(TURN_OVER, address)
     tally["written"] += 0 if asked.heap.verdict else len(written)
-    for address in written + some(rng, chosen["live block"] + chosen["live item"], 3):
+    for address in written + some(rng, live, 3):
         asked.ask(LOOK_UP, address)
 
 
@@ -161,10 +165,11 @@ def compare_bad_inputs(command):
 def enough(count):
     """How often each case must be met, of so many heaps."""
     least = {f"look-up, {what}": count // 5 for what in (
-        "live block", "live item", "free block", "free item", "page", "inside", "near", "past the end", "zero", "huge")}
-    least |= {f"look-up, {what} in a refused heap": count // 10 for what in ("live block", "live item", "inside", "zero")}
+        *LIVE, "free block", "free item", "page", "inside", "near", "past the end", "zero", "huge")}
+    least |= {f"look-up, {what} in a refused heap": count // 10 for what in (*LIVE, "inside", "zero")}
     least |= {"step, a block's": 2 * count, "step, no block's": count, "step, beyond the end": count,
-              "step, no block's in a refused heap": count, "walk to the end": count // 4, "written": count // 2}
+              "step, no block's in a refused heap": count, "walk to the end": count // 4, "written": count // 2,
+              "look-up of less than it holds": count // 5}
     least |= {kind: count for kind in (LOOK_UP, STEP, FIRST_STEP, STATISTICS, TABLE, REPORT, TURN_OVER)}
     return least | enough_heaps(count)
 

@@ -5,8 +5,9 @@
   compare.py --library FILE.. --seed S --only KIND:INDEX
 
 "--library bench/twin.c --prefix twin_" compares the plain C twin. The driver is
-built below target/compare. The figures that are run come first. A failure
-prints the calls up to the first one that differs, and the status is 1.
+built below target/compare. The figures that are run come first, then the sizes
+that an item's header can have. A failure prints the calls up to the first one
+that differs, and the status is 1.
 """
 
 import argparse
@@ -22,7 +23,7 @@ sys.dont_write_bytecode = True  # products belong below target/
 from damage import damaged
 from heaps import Tally
 from runs import CALLS, RESIZES, Run, Player, random_run, sound_heap
-from second import FIGURES, played
+from second import CLASSES, FIGURES, items_in_page, played
 
 ROOT = os.path.dirname(os.path.dirname(os.path.abspath(__file__)))
 PRODUCTS = os.path.join(ROOT, "target", "compare")
@@ -33,10 +34,18 @@ TIME_LIMIT = 120  # seconds for one batch, of which an emulator needs some
 STACK = struct.Struct("<QQQ")  # what the driver says last
 HEAPS_FROM_ONE = 25  # damaged heaps made from the same sound one
 REFUSED_SHARE = 4  # of so many damaged heaps one at least refuses each form of resize as not sound
+# Ways by which one at least of so many damaged heaps must be made.
+SIZE_SHARE = 500
+SIZE_WAYS = ("size_not_known", "size_at_an_end_of_its_class", "size_of_its_class", "size_just_outside_its_class",
+             "size_of_another_class", "huge_size", "two_wrong_sizes", "older_heap", "item_right_for_another_class")
 # What the random runs must meet, each at least once in so many calls.
 SHARES = {
     "resize: kept for want of room": 1000,
+    "resize: an item is kept": 2000,
+    "resize: an older item is kept": 2000,
     "resize_in_place: shrunk or grown": 250,
+    "resize_in_place: an item has another size": 500,
+    "resize_in_place: an older item has another size": 2000,
     "resize_in_place: 6 for more than it holds": 200,
     "resize_in_place: 6 for what it holds already": 200,
     "move: within its class": 300,
@@ -44,6 +53,10 @@ SHARES = {
     "move: to another class or kind": 250,
     "move: 6 for more than it holds": 250,
     "move: 6 for what it holds already": 250,
+    "move: of an older item": 1000,
+    "move: stale bytes stay behind": 2000,
+    "free: an item": 50,
+    "free: an older item": 100,
 }
 
 
@@ -201,17 +214,33 @@ def check_second(run):
 def figure_runs(figures, counts):
     """The figures that are run. The second program answers what they say, and so must the library."""
     for figure in figures:
-        length, _, _ = FIGURES[figure]
+        length, *_ = FIGURES[figure]
         run = Run(f"figure:{figure}", bytes(length), 0, "zeros")
-        for got, wanted in played(figure, run.call, run.heap.data):
+        for got, wanted in played(figure, run.heap, run.do):
             if got != wanted:
                 raise SystemExit(f"compare: {run.label}: the second program gives {got} instead of {wanted}")
         counts["figures"] += 1
         yield run
 
 
+def size_runs(classes, counts):
+    """Of each class a full page, and in the header of its first and of its last item every size that might pass."""
+    for c in classes:
+        run = Run(f"sizes:{c}", bytes(5000), 0, "zeros")
+        run.call("initialise")
+        items = [run.call("allocate", 8 * c + 1 + i % 8)[1] for i in range(items_in_page(c))]
+        huge = [2**bit + size for bit in range(9, 57) for size in (0, 8 * c + 8)]
+        for item in (items[0], items[-1]):
+            right = [size for size in (*range(1, 300), *huge, 0)
+                     if run.do("put", item - 8, 128 * size + 4 * c + 3) == run.call("check") == (0, 0)]
+            if right != [*range(8 * c + 1, 8 * c + 9), 0]:
+                raise SystemExit(f"compare: {run.label}: the second program takes the sizes {right}")
+        counts["sizes"] += 2 * (300 + len(huge))
+        yield run
+
+
 def count_calls(run, counts):
-    """Adds a run's calls, and what came of its resizes."""
+    """Adds a run's calls, and what came of its resizes and frees."""
     counts["calls"] += run.calls
     counts["resize: kept for want of room"] += run.heap.kept
     counts.update(run.met)
@@ -245,6 +274,7 @@ def damaged_runs(rng, label, count, counts):
         calls_on_damaged(rng, run)
         counts["damaged"] += 1
         counts["still sound"] += still_sound
+        counts[name] += 1
         yield run
 
 
@@ -270,10 +300,12 @@ def all_damaged_runs(seed, number, counts):
 
 
 def one_run(seed, label, counts):
-    """The figure, the run, or the damaged heaps, of one label alone."""
+    """The figure, the sizes, the run, or the damaged heaps, of one label alone."""
     rng = generator(seed, label)
     if label.startswith("figure:"):
         yield from figure_runs([label.removeprefix("figure:")], counts)
+    elif label.startswith("sizes:"):
+        yield from size_runs([int(label.removeprefix("sizes:"))], counts)
     elif label.startswith("run:"):
         yield random_run(rng, label)
     else:
@@ -313,20 +345,23 @@ def main():
         else:
             for run in figure_runs(FIGURES, counts):
                 driver.add(run)
+            for run in size_runs(range(CLASSES), counts):
+                driver.add(run)
             for run in random_runs(chosen.seed, chosen.number, counts):
                 driver.add(run)
             counts.demand({case: counts["calls"] // share for case, share in SHARES.items()})
             for run in all_damaged_runs(chosen.seed, chosen.damaged, counts):
                 driver.add(run)
             counts.demand({f"{form}: refused with 3": counts["damaged"] // REFUSED_SHARE for form in RESIZES})
+            counts.demand(dict.fromkeys(SIZE_WAYS, counts["damaged"] // SIZE_SHARE))
         driver.finish()
     except Difference as difference:
         report(difference, chosen.seed)
         return 1
     stack = stack_used(driver, counts["calls"], chosen.stack)
-    print(f"compare: {counts['figures']} figures, and from seed {chosen.seed} {counts['calls']} calls on "
-          f"{counts['heaps']} heaps and {counts['damaged']} damaged heaps ({counts['still sound']} of them still sound) "
-          f"agree, {stack}, {time.monotonic() - began:.0f} s")
+    print(f"compare: {counts['figures']} figures, {counts['sizes']} sizes in headers, and from seed {chosen.seed} "
+          f"{counts['calls']} calls on {counts['heaps']} heaps and {counts['damaged']} damaged heaps "
+          f"({counts['still sound']} of them still sound) agree, {stack}, {time.monotonic() - began:.0f} s")
     print("compare: among them " + ", ".join(f"{counts[case]} of '{case}'" for case in SHARES))
     return 0
 

@@ -61,6 +61,14 @@ class Patient:
         self.put(position, size + kind)
         self.put(position + size - 8, size + kind)
 
+    def size_in(self, c):
+        """A size of class c."""
+        return 8 * c + self.rng.randint(1, 8)
+
+    def put_used(self, item, c, size):
+        """Gives an item the header of one in use, of any class and for any size."""
+        self.put(item, 128 * size + 4 * c + 3)
+
     def put_next(self, item, offset):
         """Gives a free item another next offset."""
         self.put(item, self.get(item) % 128 + 16 * offset)
@@ -257,6 +265,7 @@ def page_in_a_free_block(p):
         return False
     p.state.page_class[block] = c
     p.state.item_class.update(dict.fromkeys(p.state.items_of_page(block), c))
+    p.state.asked.update({item: p.size_in(c) for item in p.state.items_of_page(block) if p.rng.random() < 0.5})
     p.split(block, (PAGE, size), (FREE, p.state.blocks[block][1] - size))
 
 
@@ -354,12 +363,13 @@ def item_with_bad_flags(p):
 
 
 @way(False)
-def used_item_with_next(p):
+def item_right_for_another_class(p):
+    """An item in use with a class and a size that fit each other, but not its page."""
     item = p.any_used_item()
     if item is None:
         return False
-    target = p.rng.choice(list(p.state.item_class) + [INDEX_PAGE + 8, 2**59])
-    p.put(item, p.get(item) + 16 * (target - INDEX_PAGE))
+    other = (p.state.item_class[item] + p.rng.randint(1, 31)) % CLASSES
+    p.put_used(item, other, p.size_in(other))
 
 
 @way(False)
@@ -368,7 +378,7 @@ def free_item_as_used(p):
     if c is None:
         return False
     item = p.rng.choice(p.state.lists[c])
-    p.put(item, p.rng.choice((p.get(item) + 2, 4 * c + 3)))
+    p.put_used(item, c, p.rng.choice((p.get(item) // 128, 0, p.size_in(c))))
 
 
 @way(False)
@@ -376,7 +386,71 @@ def used_item_as_free(p):
     item = p.any_used_item()
     if item is None:
         return False
-    p.put(item, 4 * p.state.item_class[item] + 1)
+    p.put(item, p.rng.choice((p.get(item) - 2, 4 * p.state.item_class[item] + 1)))
+
+
+# Sizes in the headers of items in use.
+
+def resized_item(p, size_for):
+    """Puts into the header of an item in use the size that its class leads to."""
+    item = p.any_used_item()
+    if item is None:
+        return False
+    c = p.state.item_class[item]
+    p.put_used(item, c, size_for(c))
+
+
+@way(True)
+def size_not_known(p):
+    return resized_item(p, lambda c: 0)
+
+
+@way(True)
+def size_at_an_end_of_its_class(p):
+    return resized_item(p, lambda c: 8 * c + p.rng.choice((1, 8)))
+
+
+@way(True)
+def size_of_its_class(p):
+    return resized_item(p, p.size_in)
+
+
+@way(False)
+def size_just_outside_its_class(p):
+    return resized_item(p, lambda c: 8 * c + p.rng.choice((0, 9)) or 9)  # 0 would be a size that is not known
+
+
+@way(False)
+def size_of_another_class(p):
+    return resized_item(p, lambda c: p.size_in((c + p.rng.randint(1, 31)) % CLASSES))
+
+
+@way(False)
+def huge_size(p):
+    """A size of its class, or none, and a bit too many; or all bits."""
+    return resized_item(p, lambda c: p.rng.choice((p.size_in(c) + 2**p.rng.randint(9, 56), 2**p.rng.randint(9, 56), 2**57 - 1)))
+
+
+@way(False)
+def two_wrong_sizes(p):
+    """Two items of a page have the same bit too many, or one is too large by what the other is too small."""
+    pages = [[item for item in p.state.items_of_page(page) if item in p.state.item_class] for page in p.state.page_class]
+    pages = [used for used in pages if len(used) > 1]
+    if not pages:
+        return False
+    one, other = p.rng.sample(p.rng.choice(pages), 2)
+    c, wrong = p.state.item_class[one], 2**p.rng.randint(9, 56)
+    p.put_used(one, c, p.size_in(c) + wrong)
+    p.put_used(other, c, p.size_in(c) + p.rng.choice((-wrong, wrong)))
+
+
+@way(True)
+def older_heap(p):
+    """No size is known, as before (iv)."""
+    if not p.state.asked:
+        return False
+    p.state.asked.clear()
+    p.heap.lay_out_whole()
 
 
 # Item lists.

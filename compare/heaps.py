@@ -69,10 +69,11 @@ def note(tally, what, heap):
     tally[f"refused with {heap.verdict}" if heap.verdict else "granted"] += 1
     tally["refused"] += heap.verdict != 0
     tally["damaged and still sound"] += what == "damaged" and heap.verdict == 0
+    tally["items with and without a size"] += heap.verdict == 0 and 0 < len(heap.state.asked) < len(heap.state.item_class)
 
 
 def enough_heaps(count):
     """What `demand` asks of so many heaps."""
     return {"heaps": count, "sound": count // 8, "payloads changed": count // 8, "granted": count // 3,
             "refused": count // 3, "refused with 1": 10, "refused with 2": 6, "refused with 3": count // 3,
-            "damaged and still sound": count // 20}
+            "damaged and still sound": count // 20, "items with and without a size": count // 100}

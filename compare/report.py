@@ -9,7 +9,7 @@ import bisect
 import sys
 
 sys.dont_write_bytecode = True
-from second import CLASSES, DATA_AREA, FREE, LONGEST, PAGE, VARIABLE, Heap, item_size
+from second import DATA_AREA, FREE, ITEM_IN_USE, LONGEST, PAGE, VARIABLE, Heap, item_size
 
 NAMES = {1: "bad length", 2: "not opened", 3: "not sound"}
 STATISTICS = ("free bytes", "free blocks", "largest free block", "variable blocks", "pages", "live items")
@@ -66,11 +66,11 @@ def report(heap):
         lines = [f"check: {refusal} {NAMES[refusal]}"]
         return lines + [f"the input is too long: more than {LONGEST} bytes"] * (len(heap.data) > LONGEST)
     state = heap.state
-    payloads = [f"{a} {state.capacity(a)}" for a in sorted(state.live_addresses())]
+    payloads = [f"{a} {state.capacity(a)} {state.shown(a)}" for a in sorted(state.live_addresses())]
     return (["check: sound", "", "statistics"] + [f"{name} {n}" for name, n in zip(STATISTICS, six)]
             + ["", "classes: class, item size, pages, live items, free items"] + class_lines(table)
             + ["", "blocks: position, size, what it is"] + block_lines(heap)
-            + ["", "live payloads: address, capacity"] + payloads
+            + ["", "live payloads: address, capacity, shown"] + payloads
             + [""] + map_lines(state))
 
 
@@ -80,22 +80,32 @@ def granted(answer):
     return address
 
 
+def forget(heap, address):
+    """Makes the item at an address one of an older heap, whose size is not known."""
+    item = address - 8
+    granted(heap.put(item, 4 * heap.state.item_class[item] + ITEM_IN_USE))
+
+
 def sample():
-    """Free and variable blocks, and pages that are full, half full, nearly empty and empty; its length is no multiple of 8."""
-    heap = Heap(bytearray(24001))
+    """Free and variable blocks, and pages that are full, half full, nearly empty and empty; its length is no multiple of 8.
+    The items are for sizes of their class in turn, from the greatest down; of one the size is not known."""
+    heap = Heap(bytearray(28001))
     granted(heap.initialise())
-    take = lambda size, count=1: [granted(heap.allocate(size)) for _ in range(count)]
+    take = lambda size, count=1: [granted(heap.allocate(size - i % 8)) for i in range(count)]
     large = take(300) + take(1000)
     full = take(256, 16)
     large += take(257) + take(700)
     half = take(128, 31)
     large += take(2000) + take(264)
     empty = take(64)
-    few = take(250, 3)
+    few = take(256, 3)
     large += take(400)
+    take(13)
     for address in large[1:6:2] + half[::2] + empty + few[:1]:
         granted(heap.free(address))
     granted(heap.resize(large[0], 288))
+    granted(heap.resize_in_place(half[1], 125))
+    forget(heap, full[2])
     return heap
 
 

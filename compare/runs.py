@@ -2,6 +2,7 @@
 
 import struct
 from collections import Counter
+from typing import NamedTuple
 
 from second import (CLASSES, DATA_AREA, FREE, LARGEST_ITEM, LONGEST, MAGIC, NO_ROOM, PAGE, SHORTEST, VARIABLE, WORD,
                     Heap, State, class_of, end_of, item_size, items_in_page)
@@ -14,25 +15,48 @@ EDGE_SIZES = (1, 7, 8, 9, 16, 17, 247, 248, 249, 255, 256, 257, 258, 263, 264, 2
 BAD_LENGTHS = (0, 1, 8, 47, 312, 343, 1048577, 1048584, 1048600)
 
 
+class Record(NamedTuple):
+    """A live record."""
+    capacity: int
+    asked: int  # for how many bytes an item is, 0 where that is not known; of a block 0
+
+    def sort(self):
+        """Its class; for blocks what comes after the last."""
+        return min(class_of(self.capacity), CLASSES)
+
+    def what(self):
+        if self.sort() == CLASSES:
+            return "a block"
+        return "an item" if self.asked else "an older item"
+
+
 def what_came(refusal, size, old, new, moved):
-    """What a resize of any form did, by the size that was asked for and the record's capacities before and after."""
+    """What a resize of any form did, by the size that was asked for and the record before and after."""
     if refusal == NO_ROOM:
-        return "6 for more than it holds" if size > old else "6 for what it holds already"
+        return "6 for more than it holds" if size > old.capacity else "6 for what it holds already"
     if refusal:
         return f"refused with {refusal}"
     if not moved:
-        return "left as it was" if old == new else "shrunk or grown"
-    old_class, new_class = (min(class_of(capacity), CLASSES) for capacity in (old, new))  # blocks come after the last
-    if old_class != new_class:
+        return what_stayed(size, old, new)
+    if old.sort() != new.sort():
         return "to another class or kind"
-    return "within its class" if new_class < CLASSES else "from block to block"
+    return "within its class" if new.sort() < CLASSES else "from block to block"
+
+
+def what_stayed(size, old, new):
+    """How a record stayed at its address."""
+    if old.capacity != new.capacity:
+        return "shrunk or grown"
+    if old.asked != new.asked:
+        return f"{old.what()} has another size"
+    return f"{old.what()} is left as it was" if old.sort() == min(class_of(size), CLASSES) else f"{old.what()} is kept"
 
 
 class Run:
     """One lent buffer and what is done to it, in order.
 
     A step is (call, arguments, answer, writes) or ("poke", position, bytes, None).
-    "met" counts what came of each form of resize.
+    "met" counts what came of each form of resize, and what was freed.
     """
 
     def __init__(self, label, start, shift, origin):
@@ -54,16 +78,47 @@ class Run:
         self.calls += 1
         return refusal, address
 
-    def capacity(self, address):
-        """What the record at an address holds; none where there is no record, or no heap."""
-        return self.heap.state.capacity(address) if self.heap.state else None
+    def do(self, name, *arguments):
+        """A step of a figure: a call, or a word put by hand."""
+        if name != "put":
+            return self.call(name, *arguments)
+        position, value = arguments
+        self.poke(position, WORD.pack(value))
+        return self.heap.put(position, value)
+
+    def record(self, address):
+        """The record at an address; none where there is none, or no heap."""
+        state = self.heap.state
+        capacity = state.capacity(address) if state else None
+        return capacity and Record(capacity, state.asked.get(address - 8, 0))
 
     def resize(self, form, address, size):
         """Calls one of the forms of resize and counts what came of it."""
-        old = self.capacity(address)
+        old = self.record(address)
         refusal, new = self.call(form, address, size)
-        self.met[f"{form}: {what_came(refusal, size, old, self.capacity(new), new != address)}"] += 1
+        self.met[f"{form}: {what_came(refusal, size, old, self.record(new), new != address)}"] += 1
+        if not refusal and new != address:
+            self.count_copy(form, old, address, new, size)
         return refusal, new
+
+    def count_copy(self, form, old, address, new, size):
+        """Counts what was moved, and where it left stale bytes that a copy of the capacity would have taken."""
+        data, stale = self.heap.data, range(old.asked, min(old.capacity, size))
+        self.met[f"{form}: of {old.what()}"] += 1
+        self.met[f"{form}: stale bytes stay behind"] += old.asked > 0 and any(data[address + i] != data[new + i] for i in stale)
+
+    def free(self, address):
+        """Frees, and counts what was there."""
+        old = self.record(address)
+        refusal, _ = self.call("free", address)
+        self.met[f"free: refused with {refusal}" if refusal else f"free: {old.what()}"] += 1
+        return refusal
+
+    def forget(self, items):
+        """Sets the headers of these items in use back to those of an older heap, which kept no size."""
+        for item in items:
+            del self.heap.state.asked[item]
+            self.poke(item, WORD.pack(4 * self.heap.state.item_class[item] + 3))
 
     def poke(self, position, content):
         """Writes bytes from outside; the caller sees to decoding where it is needed."""
@@ -127,6 +182,7 @@ class Player:
         self.dead = [0]
         self.forged = [0]  # addresses behind a forged header or tag
         self.check_share = 0.02
+        self.forget_share = rng.choice((0, 0.05, 0.3))  # of what is poked
         self.set_mood(FILLING)
         self.class_of_run = rng.randrange(CLASSES)
         self.size_makers = rng.choice((
@@ -176,9 +232,10 @@ class Player:
 
     def new_size(self, address):
         """A size for a resize: near the old one, near what is there with the right neighbour, or any."""
-        state, capacity = self.run.heap.state, self.run.capacity(address)
-        if capacity is None or self.rng.random() < 0.4:
+        state, record = self.run.heap.state, self.run.record(address)
+        if record is None or self.rng.random() < 0.4:
             return self.size()
+        capacity = record.capacity
         right = address + capacity + 8
         if self.rng.random() < 0.5 and state.is_free(right):
             capacity += state.blocks[right][1]
@@ -242,16 +299,21 @@ class Player:
 
     def free(self):
         address = self.address()
-        refusal, _ = self.run.call("free", address)
-        if not refusal:
+        if not self.run.free(address):
             self.remove(address)
+
+    def forget(self):
+        """Makes an item, or now and then all, those of an older heap."""
+        items = list(self.run.heap.state.asked)
+        self.run.forget(items if self.rng.random() < 0.05 else [self.rng.choice(items)])
 
     def poke_forged(self):
         """Puts into a live payload what stands before a payload of its kind."""
         start = self.rng.choice(self.live)
         room = self.run.heap.state.capacity(start)
         offset = 8 * self.rng.randrange(room // 8)
-        word = 4 * class_of(room) + 3 if room <= LARGEST_ITEM else room + 16 + VARIABLE
+        size = self.rng.choice((0, self.rng.randint(room - 7, room)))
+        word = 128 * size + 4 * class_of(room) + 3 if room <= LARGEST_ITEM else room + 16 + VARIABLE
         self.run.poke(start + offset, WORD.pack(word))
         self.forged = self.forged[-20:] + [start + offset + 8]
 
@@ -285,6 +347,8 @@ class Player:
             self.poke_spare_bytes()
         elif chance < 0.15 and self.live:
             self.poke_forged()
+        elif chance < 0.15 + self.forget_share and self.run.heap.state.asked:
+            self.forget()
         else:
             self.poke_any()
 
@@ -327,11 +391,13 @@ def invented_block(rng, taste, classes, after_free):
     return VARIABLE, 8 * rng.choice((35, rng.randint(35, 50), rng.randint(35, 300))), None
 
 
-def invented_page(rng, state, page, c, share_in_use):
+def invented_page(rng, state, page, c, share_in_use, share_known):
     state.page_class[page] = c
     for item in state.items_of_page(page):
         if rng.random() < share_in_use:
             state.item_class[item] = c
+            if rng.random() < share_known:
+                state.asked[item] = 8 * c + rng.randint(1, 8)
         else:
             state.lists[c].append(item)
 
@@ -342,6 +408,7 @@ def invented_state(rng, end):
     taste = rng.choice(((1, 1, 1), (1, 2, 0), (1, 6, 1), (0, 1, 1), (0, 0, 1), (1, 20, 20)))
     classes = rng.choices(range(CLASSES), k=rng.choice((1, 2, 4, 40)))
     share_in_use = rng.choice((0, 0.1, 0.5, 0.9, 1))
+    share_known = rng.choice((0, 0.5, 1))  # of the items in use; 0: an older heap
     position, after_free = DATA_AREA, False
     while position != end:
         kind, size, c = invented_block(rng, taste, classes, after_free)
@@ -350,7 +417,7 @@ def invented_state(rng, end):
             kind, size = (VARIABLE if after_free or rng.random() < 0.5 and left >= 280 else FREE), left
         state.add_block(position, kind, size)
         if kind == PAGE:
-            invented_page(rng, state, position, c, share_in_use)
+            invented_page(rng, state, position, c, share_in_use, share_known)
         position, after_free = position + size, kind == FREE
     for items in state.lists:
         rng.shuffle(items)
@@ -391,6 +458,10 @@ def random_run(rng, label):
     player = Player(rng, run)
     if not invented:
         player.begin()
-    player.play(10 if bad else rng.randint(50, min(1500, 100 + length // 20)))
+    count = 10 if bad else rng.randint(50, min(1500, 100 + length // 20))
+    player.play(count // 2)
+    if run.heap.state and rng.random() < 0.3:
+        run.forget(list(run.heap.state.asked))  # so far it was an older heap
+    player.play(count - count // 2)
     run.call("check")
     return run

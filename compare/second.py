@@ -74,6 +74,7 @@ class State:
         self.free = []  # positions of the free blocks, rising
         self.lists = [[] for _ in range(CLASSES)]  # item positions, the first item last
         self.item_class = {}  # position of an item in use -> class
+        self.asked = {}  # position of an item in use -> the size that was asked for, where that is known
 
     def __eq__(self, other):
         return self.__dict__ == other.__dict__
@@ -122,6 +123,10 @@ class State:
         kind, size = self.blocks.get(position, (None, 0))
         return size - 16 if kind == VARIABLE else None
 
+    def shown(self, address):
+        """How many of these bytes a look-up shows: as many as were asked for, where that is known."""
+        return self.asked.get(address - 8) or self.capacity(address)
+
     def live_addresses(self):
         variable = [p + 8 for p in self.starts if self.blocks[p][0] == VARIABLE]
         return variable + [p + 8 for p in self.item_class]
@@ -157,12 +162,15 @@ def read_page(data, state, position, size, next_item):
     require(size - 16 - count * step in (0, 8, 16, 24), "page's size")
     in_use, free = 4 * c + ITEM_IN_USE, 4 * c + ITEM_FREE
     for item in range(position + 8, position + 8 + count * step, step):
-        header = word_at(data, item)
-        if header == in_use:
+        padding, low = divmod(word_at(data, item), 128)
+        if low == in_use:
+            require(padding == 0 or 8 * c < padding <= 8 * c + 8, "item's size")
             state.item_class[item] = c
+            if padding:
+                state.asked[item] = padding
         else:
-            require(header % 128 == free, "item's class or flags")
-            next_item[item] = (c, header // 128 * 8)
+            require(low == free, "item's class or flags")
+            next_item[item] = (c, 8 * padding)
 
 
 def read_blocks(data, state):
@@ -339,9 +347,15 @@ class Heap:
     def look_up(self, address):
         """The refusal and the part of the lent heap, an empty one if refused."""
         refusal = self.verdict or self._refuse_address(address)
-        length = 0 if refusal else self.state.capacity(address)
+        length = 0 if refusal else self.state.shown(address)
         start = 0 if refusal else address
         return refusal, memoryview(self.data)[start:start + length]
+
+    def put(self, position, value):
+        """No call: a word written by hand, and what the check then says."""
+        WORD.pack_into(self.data, position, value)
+        self.decode()
+        return self.check()
 
     # Refusals that depend on what was asked, and the answer where there are none.
 
@@ -372,8 +386,13 @@ class Heap:
         item = self.state.lists[c].pop()
         self.state.item_class[item] = c
         self._changed_list(c, 0)
-        self.changed_items.add(item)
+        self._ask(item, size)
         return item + 8
+
+    def _ask(self, item, size):
+        """Notes in an item in use for how many bytes it is: document 02, (iv)."""
+        self.state.asked[item] = size
+        self.changed_items.add(item)
 
     def _make_page(self, c):
         position = self._take_block(items_in_page(c) * item_size(c) + 16, PAGE)
@@ -406,6 +425,7 @@ class Heap:
         position = address - 8
         if position in self.state.item_class:
             c = self.state.item_class.pop(position)
+            self.state.asked.pop(position, None)
             self.state.lists[c].append(position)
             self._changed_list(c, 1)
         else:
@@ -427,8 +447,11 @@ class Heap:
         return address if self._resize_item(address, size) or self._resize_block(address, size) else None
 
     def _resize_item(self, address, size):
-        """Whether the address is an item that stays."""
-        return self.state.item_class.get(address - 8) == class_of(size)
+        """Whether the address is an item that stays; if so it is then for this size."""
+        if self.state.item_class.get(address - 8) != class_of(size):
+            return False
+        self._ask(address - 8, size)
+        return True
 
     def _resize_block(self, address, size):
         """Whether the address is a block that stays; if so it is shrunk or grown."""
@@ -452,12 +475,11 @@ class Heap:
 
     def _move(self, address, size):
         """Allocate, copy, free: three heaps, one after the other."""
-        capacity = self.state.capacity(address)
+        count = min(self.state.shown(address), size)
         new = self._allocate(size)
         if not new:
             return None
         self._lay_out_changes()
-        count = min(capacity, size)
         self._write(new, bytes(self.data[address:address + count]))
         self._free(address)
         return new
@@ -485,7 +507,7 @@ class Heap:
     def _forget_changes(self):
         self.changed_blocks = set()  # positions; 0 and blocks that are gone do not matter
         self.changed_lists = {}  # class -> how many of its first items have new headers
-        self.changed_items = set()  # items that are now in use
+        self.changed_items = set()  # items that are now in use, or for another size
 
     def _changed_list(self, c, count):
         self.changed_lists[c] = max(count, self.changed_lists.get(c, 0))
@@ -499,7 +521,7 @@ class Heap:
         for c, count in self.changed_lists.items():
             self._lay_out_list(c, count)
         for item in self.changed_items:
-            self._put(item, 4 * self.state.item_class[item] + ITEM_IN_USE)
+            self._put(item, 128 * self.state.asked.get(item, 0) + 4 * self.state.item_class[item] + ITEM_IN_USE)
         self._forget_changes()
 
     def lay_out_whole(self):
@@ -596,34 +618,58 @@ def example_calls():
             yield name, *numbers, *map(int, line.split()[1:])
 
 
+OPENED = ("initialise", 0, 0)
+# 300 and 16 on a fresh heap, as in 01, and then 13: what (iv) is told of
+REMARK = [OPENED, ("allocate", 300, 0, 320), ("allocate", 16, 0, 648), ("allocate", 13, 0, 672)]
+# what stands in its 16 bytes; the last three are stale
+STALE = [("put", 672, 0x2222222222222222, 0, 0), ("put", 680, 0x3333333333333333, 0, 0)]
+
 # Figures of 01 and 02 that are run, on this program and, by compare.py, on the library: the length of a buffer of
-# zeros, calls with their refusals and addresses, and words by the positions where they then stand.
+# zeros; calls, and words put by hand, with their refusals and addresses; words by the positions where they then stand;
+# and, of this program alone, how many bytes a look-up then shows, by the address.
 FIGURES = {
-    "block-of-280": (10000, [("initialise", 0, 0), ("allocate", 257, 0, 320)], {312: 282}),
-    "page-at-312": (10000, [("initialise", 0, 0), ("allocate", 16, 0, 328), ("free", 48, 5, 0), ("free", 320, 5, 0)],
-                    {312: 4123}),
-    "call-list": (10000, list(example_calls()), {}),
-    "smaller-size": (1000, [("initialise", 0, 0), ("allocate", 300, 0, 320), ("resize", 320, 20, 0, 320),
+    "block-of-280": (10000, [OPENED, ("allocate", 257, 0, 320)], {312: 282}, {320: 264}),
+    "page-at-312": (10000, [OPENED, ("allocate", 16, 0, 328), ("free", 48, 5, 0), ("free", 320, 5, 0)],
+                    {312: 4123}, {320: 0, 328: 16}),
+    "call-list": (10000, list(example_calls()), {}, {}),
+    "smaller-size": (1000, [OPENED, ("allocate", 300, 0, 320), ("resize", 320, 20, 0, 320),
                             ("resize", 320, 304, 0, 320), ("resize", 320, 900, 6, 0),
                             ("resize_in_place", 320, 20, 6, 0), ("move", 320, 20, 6, 0)],
-                     {24: 632, 312: 322, 632: 368}),
-    "item-moved": (10000, [("initialise", 0, 0), ("allocate", 16, 0, 328), ("resize_in_place", 328, 9, 0, 328),
+                     {24: 632, 312: 322, 632: 368}, {320: 304}),
+    "item-moved": (10000, [OPENED, ("allocate", 16, 0, 328), ("resize_in_place", 328, 9, 0, 328),
                            ("resize_in_place", 328, 8, 6, 0), ("resize_in_place", 328, 17, 6, 0),
                            ("move", 328, 16, 0, 352)],
-                   {56: 272, 320: 5125, 344: 7}),
-    "block-moved": (10000, [("initialise", 0, 0), ("allocate", 300, 0, 320), ("resize_in_place", 320, 256, 6, 0),
+                   {56: 272, 320: 5125, 344: 2055}, {328: 0, 352: 16}),
+    "block-moved": (10000, [OPENED, ("allocate", 300, 0, 320), ("resize_in_place", 320, 256, 6, 0),
                             ("resize_in_place", 320, 257, 0, 320), ("move", 320, 257, 0, 600)],
-                    {24: 312, 312: 280, 320: 872, 592: 282, 872: 9128}),
+                    {24: 312, 312: 280, 320: 872, 592: 282, 872: 9128}, {600: 264}),
+    "size-kept": (10000, REMARK, {640: 2055, 664: 1671}, {320: 304, 648: 16, 672: 13}),
+    "size-in-place": (10000, REMARK + [("resize_in_place", 672, 9, 0, 672)], {664: 1159}, {672: 9}),
+    "size-moved": (10000, REMARK + STALE + [("move", 672, 16, 0, 696)],
+                   {688: 2055, 696: 0x2222222222222222, 704: 0x3333333333}, {696: 16}),
+    "older-item": (10000, REMARK + [("put", 664, 7, 0, 0)], {664: 7}, {648: 16, 672: 16}),
+    "older-item-resized": (10000, REMARK + [("put", 664, 7, 0, 0), ("resize_in_place", 672, 16, 0, 672)],
+                           {664: 2055}, {672: 16}),
+    "older-item-moved": (10000, REMARK + STALE + [("put", 664, 7, 0, 0), ("move", 672, 16, 0, 696)],
+                         {688: 2055, 696: 0x2222222222222222, 704: 0x3333333333333333}, {696: 16}),
+    "size-of-8": (10000, REMARK + [("put", 664, 128 * 8 + 7, 3, 0), ("free", 672, 3, 0)], {}, {672: 0}),
+    "size-of-17": (10000, REMARK + [("put", 664, 128 * 17 + 7, 3, 0), ("free", 672, 3, 0)], {}, {672: 0}),
+    "size-kept-where-the-item-is": (4800, [OPENED, ("allocate", 30, 0, 328), ("resize", 328, 5, 0, 328)],
+                                    {320: 3855}, {328: 30}),
+    "older-item-where-it-is": (4800, [OPENED, ("allocate", 30, 0, 328), ("put", 320, 15, 0, 0), ("resize", 328, 5, 0, 328)],
+                               {320: 15}, {328: 32}),
 }
 
 
-def played(figure, call, data):
-    """What each call of a figure answers, and each word of data is then, beside what 01 says."""
-    _, calls, words = FIGURES[figure]
-    for name, *numbers, refusal, address in calls:
-        yield call(name, *numbers), (refusal, address)
+def played(figure, heap, do):
+    """What each step of a figure answers, each word is then and each look-up shows, beside what 01 and 02 say."""
+    _, steps, words, shown = FIGURES[figure]
+    for name, *numbers, refusal, address in steps:
+        yield do(name, *numbers), (refusal, address)
     for position, value in words.items():
-        yield word_at(data, position), value
+        yield word_at(heap.data, position), value
+    for address, length in shown.items():
+        yield len(heap.look_up(address)[1]), length
 
 
 class SelfTest:
@@ -670,7 +716,7 @@ class SelfTest:
         self.same(self.blocks(heap)[1], ("free", 632, 9368, 0, 0))
         self.same(heap.allocate(16), (GRANTED, 648))
         self.same(self.blocks(heap)[1:], [("page", 632, 4120, 1), ("free", 4752, 5248, 0, 0)])
-        for position, value in ((632, 4123), (640, 7), (INDEX_PAGE + 8, 616), (664, 10245)):
+        for position, value in ((632, 4123), (640, 2055), (INDEX_PAGE + 8, 616), (664, 10245)):
             self.same(word_at(heap.data, position), value)
         return heap
 
@@ -706,7 +752,7 @@ class SelfTest:
         """What is granted in place and asks for nothing new, and what is refused, leave every byte."""
         heap = self.heap_with_two()
         before = bytes(heap.data)
-        for address, size, refusal in ((648, 9, GRANTED), (648, 17, NO_ROOM), (320, 303, GRANTED), (320, 305, NO_ROOM)):
+        for address, size, refusal in ((648, 16, GRANTED), (648, 17, NO_ROOM), (320, 303, GRANTED), (320, 305, NO_ROOM)):
             self.same(heap.resize_in_place(address, size), (refusal, 0 if refusal else address))
         self.same(heap.move(648, 10000), (NO_ROOM, 0))
         self.same(bytes(heap.data), before)
@@ -727,10 +773,11 @@ class SelfTest:
 
     def resizes_in_two(self):
         """The two ways agree for every size that matters, on a heap with room and on one with little."""
-        roomy, tight = self.heap_with_two(), self.fresh(1000)
+        roomy, older, tight = self.heap_with_two(), self.heap_with_two(), self.fresh(1000)
+        self.same(older.put(640, 7), (GRANTED, 0))
         self.same(tight.allocate(300), (GRANTED, 320))
         sizes = (*range(700), 5240, LARGEST_SIZE, LARGEST_SIZE + 1)
-        for heap, address in ((roomy, 320), (roomy, 648), (roomy, 656), (tight, 320)):
+        for heap, address in ((roomy, 320), (roomy, 648), (roomy, 656), (older, 648), (tight, 320)):
             differing = [size for size in sizes if self.resized_in_two(heap.data, address, size)
                          != self.resized_at_once(heap.data, address, size)]
             self.same(differing, [])
@@ -738,9 +785,9 @@ class SelfTest:
     def figures(self):
         """Those that are run on the library too; answers the heaps that they leave."""
         heaps = {}
-        for figure, (length, _, _) in FIGURES.items():
+        for figure, (length, *_) in FIGURES.items():
             heap = heaps[figure] = Heap(bytearray(length))
-            for got, wanted in played(figure, lambda name, *numbers: getattr(heap, name)(*numbers), heap.data):
+            for got, wanted in played(figure, heap, lambda name, *numbers: getattr(heap, name)(*numbers)):
                 self.same(got, wanted)
         return heaps
 
@@ -748,7 +795,6 @@ class SelfTest:
         heaps = self.figures()
         self.same(self.blocks(heaps["block-of-280"])[0], ("variable", 312, 280))
         heap = heaps["page-at-312"]
-        self.same([len(heap.look_up(address)[1]) for address in (320, 328)], [0, 16])
         self.same(heap.statistics()[2][1], [1, 1, 170])
         self.same(heap.initialise(), (ALREADY, 0))
 

@@ -1,5 +1,5 @@
 /* The ward's case: a remark is shortened on a full heap. It is not refused, it stays where it is, and no byte changes;
-   only one that is to hold more than it can is refused. */
+   a size of its own class changes the length that is kept of it; only one that is to hold more than it can is refused. */
 #include "jagwibodu.h"
 
 #include <stdio.h>
@@ -31,6 +31,7 @@ static void resize(const char *what, uint64_t record, uint64_t size)
 {
     static uint8_t before[LENGTH];
     uint64_t answer;
+    unsigned header = 0, others = 0;
 
     memcpy(before, heap, LENGTH);
     answer = jagwibodu_resize(heap, LENGTH, record, size);
@@ -39,7 +40,12 @@ static void resize(const char *what, uint64_t record, uint64_t size)
         printf("refused, %s", jagwibodu_refusal_name(JAGWIBODU_REFUSAL(answer)));
     else
         printf("granted, %s", JAGWIBODU_ADDRESS(answer) == record ? "where it was" : "elsewhere");
-    printf(", %s\n", memcmp(before, heap, LENGTH) == 0 ? "and no byte changed" : "and bytes changed");
+    for (size_t i = 0; i < LENGTH; i++)
+        *(i < record && i + 8 >= record ? &header : &others) += before[i] != heap[i];
+    if (header + others == 0)
+        printf(", and no byte changed\n");
+    else
+        printf(", and %u bytes of its header changed, and %u others\n", header, others);
 }
 
 int main(void)
@@ -54,7 +60,7 @@ int main(void)
     printf("the heap is full, with a remark of %u bytes and a letter of %u\n", (unsigned)sizeof remark_text, (unsigned)sizeof letter_text);
     resize("remark", remark, 32); /* it would go to a page of smaller items, and there is no room for one */
     resize("remark", remark, 8);
-    resize("remark", remark, 72); /* as many as it can hold */
+    resize("remark", remark, 72); /* as many as it can hold: this length is kept from now on, in its header */
     resize("remark", remark, 73);
     resize("letter", letter, 256); /* so would this one */
     resize("letter", letter, 1000);

@@ -5,6 +5,10 @@
    buffer, 0 where the call gives none. Every call checks the whole heap first. A refused call leaves every byte as it
    was. Calls are safe for all bytes, addresses and sizes.
 
+   A record is as long as was asked for. Of one of up to 256 bytes the heap keeps that length: it is what a look-up
+   shows, and a move carries no more bytes along, so what is written behind it may be lost. Heaps of versions before 1.3
+   stay sound; they keep no lengths, and there a record counts with all that it holds until it is given a size anew.
+
    Opening a buffer: call jagwibodu_check. 0: it holds a sound heap, go on. 2: it holds none, call jagwibodu_initialise.
    3: it holds a damaged one; to start anew clear its first 8 bytes, and then initialise (which else answers 7).
 
@@ -23,7 +27,7 @@
 extern "C" {
 #endif
 
-#define JAGWIBODU_VERSION "1.2"
+#define JAGWIBODU_VERSION "1.3"
 
 /* The lengths that a buffer may have; the largest size that can be asked for is the latter too. */
 #define JAGWIBODU_SHORTEST 344
@@ -77,8 +81,8 @@ uint64_t jagwibodu_initialise(uint8_t *buffer, size_t length);
 /* Says whether the buffer holds a sound heap: 0, or 1, 2, 3. Changes nothing. */
 uint64_t jagwibodu_check(const uint8_t *buffer, size_t length);
 
-/* Gives a record of at least `size` bytes, that overlaps no other; its bytes are whatever was there. Refused with 1 to
-   4, or 6. */
+/* Gives a record of `size` bytes, that overlaps no other; its bytes are whatever was there. Refused with 1 to 4, or
+   6. */
 uint64_t jagwibodu_allocate(uint8_t *buffer, size_t length, uint64_t size);
 
 /* Gives the record at `address` a new size where it stands, and answers `address` again. It never moves a record: who
@@ -86,15 +90,15 @@ uint64_t jagwibodu_allocate(uint8_t *buffer, size_t length, uint64_t size);
    the record cannot have this size and stay, which may be so for a smaller size too. */
 uint64_t jagwibodu_resize_in_place(uint8_t *buffer, size_t length, uint64_t address, uint64_t size);
 
-/* Gives the record at `address` a new size elsewhere, with the bytes that both sizes share, and gives its old place
+/* Gives the record at `address` a new size elsewhere, with the bytes that both lengths share, and gives its old place
    back. It always moves, to the same size too, and never answers `address`. Refused with 1 to 6; then the record stays
    as it was. 6 means exactly that an allocation of `size` finds no room while the record is still there. */
 uint64_t jagwibodu_move(uint8_t *buffer, size_t length, uint64_t address, uint64_t size);
 
 /* Gives the record at `address` a new size, where it stands or elsewhere: what jagwibodu_resize_in_place gives; where
-   that answers 6, what jagwibodu_move gives; and where that answers 6 too, a record that holds the new size already
-   stays as it is, and the call is granted. So 6 is only for a size that the record cannot hold. Refused with 1 to 6;
-   then the record stays as it was. */
+   that answers 6, what jagwibodu_move gives; and where that answers 6 too, a record that has room for the new size
+   stays as it is, its kept length too, and the call is granted. So 6 is only for a size that the record cannot hold.
+   Refused with 1 to 6; then the record stays as it was. */
 uint64_t jagwibodu_resize(uint8_t *buffer, size_t length, uint64_t address, uint64_t size);
 
 /* Gives the record at `address` back. Refused with 1, 2, 3 or 5. */

@@ -25,6 +25,7 @@ use Rattle.model.proofs.pictures.Shown.{head-read}
 use Rattle.model.proofs.blocks.Spots.{found-spot, found-none}
 use Rattle.model.proofs.blocks.Placed.{placed-here}
 use Rattle.model.proofs.pictures.Heads.{empty-list}
+use Rattle.model.proofs.items.Asked.{within-own}
 use Rattle.model.proofs.items.PageWords.{first-offset}
 use Rattle.model.proofs.items.Paged.{paged-here}
 use Rattle.model.proofs.items.Pop.{popped-here, popped-over}
@@ -77,12 +78,12 @@ module _ {w : ℕ} {b : List ℕ} (k : Ready w b) where
 
   module _ {c : ℕ} (cl : c < shape w .classes) where
     -- the first item of the list
-    pub has-item : (wordAt w b (headAt (shape w) c) ≡ 0 → ⊥) → HasItem w b c
-    has-item z = record { width = k .width; sound = k .sound; class = cl; short = k .short; some-item = z }
+    pub has-item : {n : ℕ} → classOf n ≡ c → (wordAt w b (headAt (shape w) c) ≡ 0 → ⊥) → HasItem w b c n
+    has-item own z = record { width = k .width; sound = k .sound; class = cl; short = k .short; some-item = z; own = own }
 
-    pub item-given : (a : List ℕ) (r : Address) → (wordAt w b (headAt (shape w) c) ≡ 0 → ⊥) → TookItem w b c (r .0) a → GivesItem w b c (At r) a
+    pub item-given : {n : ℕ} → classOf n ≡ c → (a : List ℕ) (r : Address) → (wordAt w b (headAt (shape w) c) ≡ 0 → ⊥) → TookItem w b c n (r .0) a → GivesItem w b c n (At r) a
     unfolding anItem fromList
-    item-given a r z d =
+    item-given {n} own a r z d =
         record {
           is = λ L h.
               let o = wordAt w b (headAt (shape w) c) in
@@ -92,7 +93,7 @@ module _ {w : ℕ} {b : List ℕ} (k : Ready w b) where
               (record {
                 answer = ap (λ (y : ℕ). At (record { 0 = y })) (i .0);
                 bytes = i .1;
-                here = rw (i .1) (popped-here (shape w) (shape-good (k .width)) b L h c o (f .0) cl (f .1) (k .short));
+                here = rw (i .1) (popped-here (shape w) (shape-good (k .width)) b L h c o (f .0) cl (f .1) (k .short) n (within-own c n own));
               });
         }
 
@@ -104,7 +105,7 @@ module _ {w : ℕ} {b : List ℕ} (k : Ready w b) where
       empty : (L : Layout) → Here (shape w) b L → getD (L .lists) c [] ≡ []
       empty L h = empty-list (shape w) (shape-good (k .width)) b L h c cl (k .short) zero-head
 
-      pub page-none : (p : ℕ) → FindsFit w b (pageNeed (shape w) c) p → p ≡ 0 → GivesItem w b c NoRoom b
+      pub page-none : {n : ℕ} (p : ℕ) → FindsFit w b (pageNeed (shape w) c) p → p ≡ 0 → GivesItem w b c n NoRoom b
       unfolding anItem fromPage
       page-none p f e = record { is = λ L h. rw (empty L h, found-none (shape w) (pageNeed (shape w) c) L (sym (f L h) ∙ e)) (record { answer = refl; bytes = refl; here = h }) }
 
@@ -123,19 +124,20 @@ module _ {w : ℕ} {b : List ℕ} (k : Ready w b) where
             let g : wordAt w b₁ (headAt (shape w) c) ≡ spotAt (shape w) t + w - index (shape w) = head-read (shape w) b₁ (paged (shape w) c t L) (made-here L t x) c cl ∙ ap headOf f ∙ first-offset (shape w) c (spotAt (shape w) t + w) (shape w .perPage c) (omega (arith, per-page-bound (k .width) c)) in
             omega (arith, e, g, le-ends (shape w) (start (shape w)) (t .pre))
 
-        pub made-item : Spotted (shape w) b p (pageNeed (shape w) c) → HasItem w b₁ c
-        made-item s =
+        pub made-item : {n : ℕ} → classOf n ≡ c → Spotted (shape w) b p (pageNeed (shape w) c) → HasItem w b₁ c n
+        made-item own s =
             record {
               width = k .width;
               sound = record { layout = paged (shape w) c (s .spot) (s .layout); here = made-here (s .layout) (s .spot) (s .is) };
               class = cl;
               short = rw (made-long (s .layout) (s .spot) (s .is)) (k .short);
               some-item = made-head (s .layout) (s .spot) (s .is);
+              own = own;
             }
 
-        pub page-given : FindsFit w b (pageNeed (shape w) c) p → (p ≡ 0 → ⊥) → (a : List ℕ) (r : Address) → TookItem w b₁ c (r .0) a → Bytes b → GivesItem w b c (At r) a
+        pub page-given : {n : ℕ} → classOf n ≡ c → FindsFit w b (pageNeed (shape w) c) p → (p ≡ 0 → ⊥) → (a : List ℕ) (r : Address) → TookItem w b₁ c n (r .0) a → Bytes b → GivesItem w b c n (At r) a
         unfolding anItem fromPage fromList
-        page-given f z a r d bytes =
+        page-given {n} own f z a r d bytes =
             record {
               is = λ L h.
                   let s = found-spot (shape w) b (pageNeed (shape w) c) p L h (f L h) z in
@@ -149,21 +151,21 @@ module _ {w : ℕ} {b : List ℕ} (k : Ready w b) where
                   let len = made-long L t x in
                   let short : length b₁ ≤ shape w .most = rw len (k .short) in
                   let drawn-new : b₁ ≡ draw w (words (shape w) (endOf (length b₁)) new) b = rw len (m .draws L t x) in
-                  let all : a ≡ drawn (shape w) (popped (shape w) c o (g .0) new) b =
+                  let all : a ≡ drawn (shape w) (popped (shape w) n c o (g .0) new) b =
                   i .1
-                  ∙ ap (λ (y : List ℕ). draw w (words (shape w) (endOf (length b₁)) (popped (shape w) c o (g .0) new)) y) drawn-new
-                  ∙ popped-over (shape w) (shape-good (k .width)) b₁ new here₁ c o (g .0) cl (g .1) short b (sym len) bytes
-                  ∙ ap (λ (y : ℕ). draw w (words (shape w) (endOf y) (popped (shape w) c o (g .0) new)) b) len in
+                  ∙ ap (λ (y : List ℕ). draw w (words (shape w) (endOf (length b₁)) (popped (shape w) n c o (g .0) new)) y) drawn-new
+                  ∙ popped-over (shape w) (shape-good (k .width)) b₁ new here₁ c o (g .0) cl (g .1) short n (within-own c n own) b (sym len) bytes
+                  ∙ ap (λ (y : ℕ). draw w (words (shape w) (endOf y) (popped (shape w) n c o (g .0) new)) b) len in
                   rw (empty L h, s .1, g .1)
                   (record {
                     answer = ap (λ (y : ℕ). At (record { 0 = y })) (i .0);
                     bytes = all;
-                    here = rw (i .1) (popped-here (shape w) (shape-good (k .width)) b₁ new here₁ c o (g .0) cl (g .1) short);
+                    here = rw (i .1) (popped-here (shape w) (shape-good (k .width)) b₁ new here₁ c o (g .0) cl (g .1) short n (within-own c n own));
                   });
             }
 
 -- the two ways of allocate
-pub small-way : {w : ℕ} {b a : List ℕ} {r : Taken} (n c : ℕ) → c ≡ classOf n → n ≤ largestItem (shape w) → GivesItem w b c r a → GivesSize w b n r a
+pub small-way : {w : ℕ} {b a : List ℕ} {r : Taken} (n c : ℕ) → c ≡ classOf n → n ≤ largestItem (shape w) → GivesItem w b c n r a → GivesSize w b n r a
 unfolding allocate
 small-way {w} n c e l g = record { is = λ L h. rw (le-leb n (largestItem (shape w)) l, ← e) (g .is L h) }
 

@@ -29,19 +29,19 @@ module _ {w : ℕ} (b : List ℕ) (a : ℕ) (k : Ready w b) (x : Live) (f : (L :
         sound = k .sound;
       }
 
-  module _ (q : Position) (c : ℕ) (e : x ≡ Item q c) where
+  module _ (q : Position) (c n : ℕ) (e : x ≡ Item q c n) where
     pub item-live : ItemLive w b (q .0) c
     unfolding Finds
     item-live =
-        let g = found-as (Item q c) e (k .sound .layout) (k .sound .here) in
-        record { width = k .width; layout = k .sound .layout; here = k .sound .here; short = k .short; low = g .0; address = a; found = g .1 }
+        let g = found-as (Item q c n) e (k .sound .layout) (k .sound .here) in
+        record { width = k .width; layout = k .sound .layout; here = k .sound .here; short = k .short; low = g .0; address = a; asked = n; found = g .1 }
 
     pub free-item : (d : List ℕ) → GaveItem w b (q .0) c d → GivesBack w b a true d
     unfolding Finds
     free-item d g =
         record {
-          answer = λ L h. ap isFound (sym (found-as (Item q c) e L h .1));
-          bytes = λ L h. g .draws L a h (found-as (Item q c) e L h .1) ∙ ap (freedBytes w b L) (sym (found-as (Item q c) e L h .1));
+          answer = λ L h. ap isFound (sym (found-as (Item q c n) e L h .1));
+          bytes = λ L h. g .draws L a n h (found-as (Item q c n) e L h .1) ∙ ap (freedBytes w b L) (sym (found-as (Item q c n) e L h .1));
           sound = g .sound;
         }
 

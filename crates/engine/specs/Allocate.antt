@@ -4,7 +4,7 @@ use mathlib.Core.Path.{_≡_}
 use mathlib.Core.List.{List, []}
 use mathlib.Core.Option.{Option, none, some}
 use lib.ListN.{getD}
-use Rattle.model.specs.Shape.{shape}
+use Rattle.model.specs.Shape.{shape, classOf}
 use Rattle.model.specs.Layout.{Layout}
 use Rattle.model.specs.Sound.{Here}
 use Rattle.model.specs.Rules.{Made, fit, anItem, aBlock, allocate}
@@ -13,10 +13,11 @@ use Rattle.engine.specs.Ready.{Ready}
 use Rattle.engine.specs.declared.allocate.Taken.{Taken}
 use Rattle.engine.specs.declared.allocate.Taken.the-variants.{At, NoRoom}
 
--- and a class
-pub record ReadyClass (w : ℕ) (b : List ℕ) (c : ℕ) : Type 0 where
+-- and a class, and a size of it
+pub record ReadyClass (w : ℕ) (b : List ℕ) (c n : ℕ) : Type 0 where
   pub ready : Ready w b
   pub class : c < shape w .classes
+  pub own : classOf n ≡ c
 
 -- a size that may be asked for
 pub record Asked (w : ℕ) (n : ℕ) : Type 0 where
@@ -42,9 +43,9 @@ pub record Gives (w : ℕ) (b : List ℕ) (L : Layout) (o : Option Made) (r : Ta
   pub bytes : c ≡ bytesOf w b o
   pub here : Here (shape w) c (layoutOf L o)
 
--- an item of a class; a variable block; allocate
-pub record GivesItem (w : ℕ) (b : List ℕ) (c : ℕ) (r : Taken) (a : List ℕ) : Type 0 where
-  pub is : (L : Layout) → Here (shape w) b L → Gives w b L (anItem (shape w) c L (getD (L .lists) c [])) r a
+-- an item of a class, for n bytes; a variable block; allocate
+pub record GivesItem (w : ℕ) (b : List ℕ) (c n : ℕ) (r : Taken) (a : List ℕ) : Type 0 where
+  pub is : (L : Layout) → Here (shape w) b L → Gives w b L (anItem (shape w) n c L (getD (L .lists) c [])) r a
 
 pub record GivesBlock (w : ℕ) (b : List ℕ) (need : ℕ) (r : Taken) (a : List ℕ) : Type 0 where
   pub is : (L : Layout) → Here (shape w) b L → Gives w b L (aBlock (shape w) need L (fit need (L .blocks))) r a

@@ -13,12 +13,12 @@ use Rattle.model.specs.Calls.{drawn}
 abbrev pub isFound : Found → Bool
 isFound nothing = false
 isFound (block t) = true
-isFound (thing o c) = true
+isFound (thing o c n) = true
 
 abbrev pub freedBytes : ℕ → List ℕ → Layout → Found → List ℕ
 freedBytes w b L nothing = b
 freedBytes w b L (block t) = drawn (shape w) (freed (shape w) (block t) L) b
-freedBytes w b L (thing o c) = drawn (shape w) (freed (shape w) (thing o c) L) b
+freedBytes w b L (thing o c n) = drawn (shape w) (freed (shape w) (thing o c n) L) b
 
 pub record GivesBack (w : ℕ) (b : List ℕ) (a : ℕ) (r : Bool) (c : List ℕ) : Type 0 where
   pub answer : (L : Layout) → Here (shape w) b L → r ≡ isFound (find (shape w) a L)

@@ -19,21 +19,21 @@ pub enum Taken {
     NoRoom,
 }
 
-// An item of class c: the first on its list, or of a new page where the list is empty.
-fn an_item(w: usize, h: &mut [u8], c: usize) -> Taken
-    requires { ⌜ ReadyClass w (now h) c ⌝ }
-    ensures { λ r. ⌜ GivesItem w (now (h .entry)) c r (now (h .exit)) ⌝ }
+// An item of class c for n bytes: the first on its list, or of a new page where the list is empty.
+fn an_item(w: usize, h: &mut [u8], c: usize, n: usize) -> Taken
+    requires { ⌜ ReadyClass w (now h) c n ⌝ }
+    ensures { λ r. ⌜ GivesItem w (now (h .entry)) c n r (now (h .exit)) ⌝ }
 {
     if word(w, h, head_at(w, c).0) != 0 {
-        return Taken::At(items::take(w, h, c));
+        return Taken::At(items::take(w, h, c, n));
     }
-    let n = items_in_page(w, c);
-    let p = fitting::find_fit(w, h, page_need(w, c, n));
+    let count = items_in_page(w, c);
+    let p = fitting::find_fit(w, h, page_need(w, c, count));
     if p.0 == 0 {
         return Taken::NoRoom;
     }
-    pages::make(w, h, p, c, n);
-    Taken::At(items::take(w, h, c))
+    pages::make(w, h, p, c, count);
+    Taken::At(items::take(w, h, c, n))
 }
 
 // A variable block of size need.
@@ -57,7 +57,7 @@ pub fn allocate(w: usize, h: &mut [u8], n: usize) -> Taken
     ensures { λ r. ⌜ GivesSize w (now (h .entry)) n r (now (h .exit)) ⌝ }
 {
     if n <= largest_item(w) {
-        return an_item(w, h, class_of(n));
+        return an_item(w, h, class_of(n), n);
     }
     a_block(w, h, need_of(w, n))
 }

@@ -15,7 +15,7 @@ pub fn free(w: usize, h: &mut [u8], a: Address) -> bool
     let x = find(w, h, a);
     match x {
         Live::Nothing => false,
-        Live::Item(q, c) => {
+        Live::Item(q, c, _) => {
             give(w, h, q, c);
             true
         }

@@ -1,7 +1,7 @@
 -- What each way through the search for a live address shows.
 use Prim.Native.Nat.{ℕ, _+_, _-_, _*_, _/_, _%_, _≤_, _<_}
 use mathlib.Core.Path.{_≡_, refl, sym, ap, subst, _∙_}
-use mathlib.Core.Bool.{Bool, true, false}
+use mathlib.Core.Bool.{Bool}
 use mathlib.Core.List.{List, [], _∷_, _++_, append-nil}
 use native.Mathlib.Nat.{mul-mod-left, div-add-mod', mul-div-cancel}
 use native.Mathlib.Omega.{arith}
@@ -9,7 +9,7 @@ use native.Mathlib.Decide.{ℕ-discrete}
 use lib.ListN.{length, getD}
 use Rattle.words.specs.Width.{Width}
 use Rattle.words.specs.Word.{wordAt}
-use Rattle.model.specs.Shape.{shape, leastFree, itemSize, offsetOf, endOf, start, index}
+use Rattle.model.specs.Shape.{shape, leastFree, itemSize, offsetOf, endOf, start}
 use Rattle.model.specs.declared.Position.{Position}
 use Rattle.model.specs.Picture.{Shows}
 use Rattle.model.specs.Layout.{Slot, variable, page, Block, free, used, Layout, nextOf, useSize, slotWords, useWords, own}
@@ -21,7 +21,7 @@ use Rattle.model.proofs.pictures.Pictures.{shows-left}
 use Rattle.model.proofs.blocks.Blocks.{allowed-left, le-ends}
 use Rattle.model.proofs.walks.Standing.{PageThere, sized, is-variable, is-free, is-page}
 use Rattle.model.proofs.walks.Passing.{stands as stands-at}
-use Rattle.model.specs.Parts.{freeKind, variableKind, sizeIn, kindIn, classIn, heldHeader, firstItemAt}
+use Rattle.model.specs.Parts.{freeKind, variableKind, sizeIn, kindIn, classIn, heldFlags, flagsIn, askedIn, firstItemAt}
 use Rattle.model.specs.inner.Walks.{flag, Standing}
 use Rattle.model.proofs.walks.Finding.{behinds, slots-below, find-past, find-below, find-at, find-not-at, find-free, find-page}
 use Rattle.model.proofs.items.Aligned.{next-aligned, class-read, SlotRead, slot-read, slots-none}
@@ -167,14 +167,14 @@ module _ {w : ℕ} {b : List ℕ} {p a : ℕ} (o : OnPage w b p a) (L : Layout) 
           let g : d / s * itemSize (shape w) class ≡ d = ap (λ (x : ℕ). d / s * x) (sym size-same) ∙ e in
           slot-read (on .width) b (getD (L .lists) class []) class class-few aligned a (p + w) (d / s) (there .slots) (omega (arith, count-same)) (omega (arith, g, ed)) slots-shown
 
-      pub page-idle : (x ≡ heldHeader c → ⊥) → Finds w L a Nothing
+      pub page-idle : (flagsIn x ≡ heldFlags → ⊥) → Finds w L a Nothing
       unfolding Finds
-      page-idle z = in-slots nothing (read .not-in-use (λ e. z (omega (arith, ew, e, class-same))))
+      page-idle z = in-slots nothing (read .not-in-use (λ e. z (ap flagsIn ew ∙ e)))
 
-      pub page-held : x ≡ heldHeader c → Finds w L a (Item q c)
+      pub page-held : flagsIn x ≡ heldFlags → (n : ℕ) → n ≡ askedIn x → Finds w L a (Item q c n)
       unfolding Finds
-      page-held z =
-          (omega (arith, start-low, eq), in-slots (thing (offsetOf (shape w) (a - w)) class) (read .in-use (omega (arith, ew, class-same))) ∙ rw (eq, class-same) refl)
+      page-held z n en =
+          (omega (arith, start-low, eq), in-slots (thing (offsetOf (shape w) (a - w)) class (askedIn (wordAt w b (a - w)))) (read .in-use (ap flagsIn (sym ew) ∙ z)) ∙ rw (eq, class-same, en, ew) refl)
         where
           start-low : (start (shape w)) ≤ p
           start-low = omega (arith, stands on L h .begins, le-ends (shape w) (start (shape w)) (stands on L h .pre))

@@ -1,5 +1,5 @@
 -- What the search for a live address asks and promises.
-use Prim.Native.Nat.{ℕ, _+_, _*_, _/_, _%_, _≤_, _<_}
+use Prim.Native.Nat.{ℕ, _+_, _≤_, _<_}
 use mathlib.Core.Path.{_≡_}
 use mathlib.Core.Logic.{_⊎_}
 use mathlib.Core.Bool.{Bool, false, cond}
@@ -29,7 +29,7 @@ pub record BlockFound (w : ℕ) (L : Layout) (a : ℕ) (t : Spot) (x : VariableB
 -- an answer says what is found at a
 unfoldable pub Finds : ℕ → Layout → ℕ → Live → Type 0
 Finds w L a Nothing = find (shape w) a L ≡ nothing
-Finds w L a (Item q c) = (index (shape w) ≤ q .0) × (find (shape w) a L ≡ thing (offsetOf (shape w) (q .0)) c)
+Finds w L a (Item q c n) = (index (shape w) ≤ q .0) × (find (shape w) a L ≡ thing (offsetOf (shape w) (q .0)) c n)
 Finds w L a (Variable x) = (t : Spot) × BlockFound w L a t x
 
 -- the walk stands at p, and the block there, of tag t, reaches past the address a

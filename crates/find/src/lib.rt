@@ -1,14 +1,16 @@
 // What is live at an address: found by a walk over blocks, from the last free one below it on, so that no payload and no stale word can pass for a tag.
 use model::Address;
 use model::FREE;
+use model::HELD;
 use model::Position;
 use model::VARIABLE;
 use model::address_of;
+use model::asked_in;
 use model::class_in;
 use model::end_of;
 use model::first_free_at;
 use model::first_item_at;
-use model::held_header;
+use model::flags_in;
 use model::item_size;
 use model::items_in_page;
 use model::kind_in;
@@ -34,10 +36,10 @@ pub struct VariableBlock {
     pub touching: bool,
 }
 
-// What is live at an address: an item, by its header's position and its class; a variable block; or nothing.
+// What is live at an address: an item, by its header's position, its class and the size that was asked for (0: not known); a variable block; or nothing.
 pub enum Live {
     Nothing,
-    Item(Position, usize),
+    Item(Position, usize, usize),
     Variable(VariableBlock),
 }
 
@@ -61,10 +63,11 @@ fn in_page(w: usize, h: &[u8], p: Position, a: Address) -> Live
         return Live::Nothing;
     }
     let q = position_of(w, a);
-    if word(w, h, q.0) != held_header(c) {
+    let x = word(w, h, q.0);
+    if flags_in(x) != HELD {
         return Live::Nothing;
     }
-    Live::Item(q, c)
+    Live::Item(q, c, asked_in(x))
 }
 
 // What is live at a, in the block at p with the tag t that reaches past a.

@@ -8,7 +8,7 @@ use lib.ListN.{length, take, drop, length-take, length-drop}
 use Rattle.model.specs.Shape.{wide}
 use Rattle.model.specs.Layout.{Layout}
 use Rattle.model.specs.Sound.{Here}
-use Rattle.model.specs.Rules.{Found, block, thing, nothing, find, capacity}
+use Rattle.model.specs.Rules.{Found, block, thing, nothing, find, shownOf}
 use Rattle.model.specs.Reading as reading
 use Rattle.model.specs.Reading.{ended}
 use Rattle.model.specs.Refusals.{notLive}
@@ -44,49 +44,49 @@ stays-there w r e = ap (λ (s : reading.Step). record { position = s .position; 
 
 -- what is live at an address
 module _ (b : List ℕ) (a : ℕ) (v : Verdict) (x : Examined b v) where
-  pub held-refused : (k : Refusal) → v ≡ Unfit k → (n : ℕ) → n ≡ refusalNumber k → HeldTold b a (record { size = 0; refusal = n })
+  pub held-refused : (k : Refusal) → v ≡ Unfit k → (n : ℕ) → n ≡ refusalNumber k → HeldTold b a (record { shown = 0; refusal = n })
   held-refused k e n en =
       record {
-        size = refuses b (λ j. 0) (λ L. capacity wide (find wide a L)) v k x e;
+        shown = refuses b (λ j. 0) (λ L. shownOf wide (find wide a L)) v k x e;
         refusal = rw en (refuses b (λ j. j) (λ L. found wide (find wide a L) notLive 0) v k x e);
         within = λ z. absurd (z refl);
       }
 
-  module _ (e : v ≡ Fine) (n : ℕ) (h : Holds 8 b a n) where
-    pub held-none : n ≡ 0 → (m : ℕ) → m ≡ notLive → HeldTold b a (record { size = 0; refusal = m })
+  module _ (e : v ≡ Fine) (n : ℕ) (h : Holds 8 (shownOf wide) b a n) where
+    pub held-none : n ≡ 0 → (m : ℕ) → m ≡ notLive → HeldTold b a (record { shown = 0; refusal = m })
     held-none z m em =
         rw em
         record {
-          size = decides b (λ j. 0) (λ L. capacity wide (find wide a L)) v x e 0 (λ L k. sym z ∙ h .answer L k);
+          shown = decides b (λ j. 0) (λ L. shownOf wide (find wide a L)) v x e 0 (λ L k. sym z ∙ h .answer L k);
           refusal = decides b (λ j. j) (λ L. found wide (find wide a L) notLive 0) v x e notLive (λ L k. ap (λ (f : Found). found wide f notLive 0) (sym (h .none z L k)));
           within = λ y. absurd (y refl);
         }
 
-    pub held-some : (n ≡ 0 → ⊥) → HeldTold b a (record { size = n; refusal = 0 })
+    pub held-some : (n ≡ 0 → ⊥) → HeldTold b a (record { shown = n; refusal = 0 })
     held-some z =
         record {
-          size = decides b (λ j. 0) (λ L. capacity wide (find wide a L)) v x e n (λ L k. h .answer L k);
+          shown = decides b (λ j. 0) (λ L. shownOf wide (find wide a L)) v x e n (λ L k. h .answer L k);
           refusal = decides b (λ j. j) (λ L. found wide (find wide a L) notLive 0) v x e 0 (λ L k. granted (find wide a L) (h .answer L k));
           within = λ y. h .within z;
         }
       where
-        granted : (f : Found) → n ≡ capacity wide f → _≡_ {A = ℕ} 0 (found wide f notLive 0)
+        granted : (f : Found) → n ≡ shownOf wide f → _≡_ {A = ℕ} 0 (found wide f notLive 0)
         granted nothing k = absurd (z k)
         granted (block t) k = refl
-        granted (thing o c) k = refl
+        granted (thing o c m) k = refl
 
 module _ {b : List ℕ} {a : ℕ} (r : Held) (t : HeldTold b a r) where
-  pub part-none : r .size ≡ 0 → PartTold b a []
+  pub part-none : r .shown ≡ 0 → PartTold b a []
   part-none e =
-      let c : Checked wide b (λ k. take 0 (drop a b)) (λ L. take (capacity wide (find wide a L)) (drop a b)) (take (r .size) (drop a b)) = checked-map (λ (n : ℕ). take n (drop a b)) (t .size) in
+      let c : Checked wide b (λ k. take 0 (drop a b)) (λ L. take (shownOf wide (find wide a L)) (drop a b)) (take (r .shown) (drop a b)) = checked-map (λ (n : ℕ). take n (drop a b)) (t .shown) in
       rw e at c
 
-  pub part-some : PartTold b a (take (a + r .size - a) (drop a b))
-  part-some = rw add-sub-cancel-left (checked-map (λ (n : ℕ). take n (drop a b)) (t .size))
+  pub part-some : PartTold b a (take (a + r .shown - a) (drop a b))
+  part-some = rw add-sub-cancel-left (checked-map (λ (n : ℕ). take n (drop a b)) (t .shown))
 
   -- a part that is not refused is not empty
-  pub part-full : (r .size ≡ 0 → ⊥) → length (take (a + r .size - a) (drop a b)) ≡ 0 → ⊥
+  pub part-full : (r .shown ≡ 0 → ⊥) → length (take (a + r .shown - a) (drop a b)) ≡ 0 → ⊥
   part-full n e = n (sym long ∙ e)
     where
-      long : length (take (a + r .size - a) (drop a b)) ≡ r .size
+      long : length (take (a + r .shown - a) (drop a b)) ≡ r .shown
       long = rw add-sub-cancel-left (simp (length-take, length-drop) (omega (arith, t .within n)))

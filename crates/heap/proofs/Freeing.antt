@@ -19,7 +19,7 @@ module _ (b : List ℕ) (a : ℕ) (r : Bool) (c : List ℕ) (f : GivesBack 8 b a
       go : (x : Found) → isFound x ≡ true → c ≡ freedBytes 8 b L x → granted 0 c ≡ found wide x (refused b notLive) (granted 0 (drawn wide (freed wide x L) b))
       go nothing t u = absurd (clash (isFound nothing) refl t)
       go (block s) t u = ap (granted 0) u
-      go (thing o d) t u = ap (granted 0) u
+      go (thing o d m) t u = ap (granted 0) u
 
   pub nothing-there : r ≡ false → refused c notLive ≡ found wide (find wide a L) (refused b notLive) (granted 0 (drawn wide (without wide a L) b))
   nothing-there e = go (find wide a L) (sym (f .answer L h) ∙ e) (f .bytes L h)
@@ -27,4 +27,4 @@ module _ (b : List ℕ) (a : ℕ) (r : Bool) (c : List ℕ) (f : GivesBack 8 b a
       go : (x : Found) → isFound x ≡ false → c ≡ freedBytes 8 b L x → refused c notLive ≡ found wide x (refused b notLive) (granted 0 (drawn wide (freed wide x L) b))
       go nothing t u = ap (λ (y : List ℕ). refused y notLive) u
       go (block s) t u = absurd (clash (isFound (block s)) t refl)
-      go (thing o d) t u = absurd (clash (isFound (thing o d)) t refl)
+      go (thing o d m) t u = absurd (clash (isFound (thing o d m)) t refl)

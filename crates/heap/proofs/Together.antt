@@ -8,7 +8,7 @@ use lib.ListN.{length, take, drop}
 use Rattle.model.specs.Shape.{wide, endOf}
 use Rattle.model.specs.Layout.{Layout}
 use Rattle.model.specs.Sound.{Here, Sound}
-use Rattle.model.specs.Rules.{Found, block, thing, nothing, find, capacity}
+use Rattle.model.specs.Rules.{Found, block, thing, nothing, find, shownOf}
 use Rattle.model.specs.Reading.{theEnd, Statistics, Step, ended, step}
 use Rattle.model.specs.Refusals.{notLive}
 use Rattle.model.specs.Calls.{Told, Lent, Opened, found, LooksUp, Steps, Counts, Tabulates}
@@ -41,11 +41,11 @@ looks-up b a k p c d =
       sound = λ l L h. pair (c .sound l L h) (d .sound l L h) ∙ go (find wide a L);
     }
   where
-    go : (f : Found) → _≡_ {A = Told (List ℕ)} (record { refusal = found wide f notLive 0; answer = take (capacity wide f) (drop a b) })
-        (found wide f (record { refusal = notLive; answer = [] }) (record { refusal = 0; answer = take (capacity wide f) (drop a b) }))
+    go : (f : Found) → _≡_ {A = Told (List ℕ)} (record { refusal = found wide f notLive 0; answer = take (shownOf wide f) (drop a b) })
+        (found wide f (record { refusal = notLive; answer = [] }) (record { refusal = 0; answer = take (shownOf wide f) (drop a b) }))
     go nothing = refl
     go (block t) = refl
-    go (thing o c) = refl
+    go (thing o c n) = refl
 
 -- a step's answer, from its contract alone: what a loop over the walk needs to end
 module _ (b : List ℕ) (w : ℕ) (r : Told Step) (c : Steps wide b w r) where

@@ -5,7 +5,7 @@ use mathlib.Core.List.{List, []}
 use lib.ListN.{length}
 use denote.Ref.{RefT, now, ptr}
 use Rattle.model.specs.Shape.{wide}
-use Rattle.model.specs.Rules.{find, capacity}
+use Rattle.model.specs.Rules.{find, shownOf}
 use Rattle.model.specs.Reading.{lookedUp}
 use Rattle.model.specs.Refusals.{notLive}
 use Rattle.model.specs.Calls.{Checked, found}
@@ -18,15 +18,15 @@ PartTold b a r = Checked wide b (λ k. []) (λ L. lookedUp wide b a L) r
 abbrev pub RefusalTold : List ℕ → ℕ → ℕ → Type 0
 RefusalTold b a r = Checked wide b (λ k. k) (λ L. found wide (find wide a L) notLive 0) r
 
--- r is the payload at a: its bytes; and it is a part of h, which begins a bytes after the start of h, or at the start of h where it is empty
+-- r is what is shown of the payload at a: its bytes; and it is a part of h, which begins a bytes after the start of h, or at the start of h where it is empty
 pub record Part (h : RefT (List ℕ)) (a : ℕ) (r : RefT (List ℕ)) : Type 0 where
   pub bytes : PartTold (now h) a (now r)
   pub same : ptr r .0 ≡ ptr h .0
   pub place : 0 < length (now r) → ptr r .1 ≡ a + ptr h .1
   pub empty : length (now r) ≡ 0 → ptr r .1 ≡ ptr h .1
 
--- how many bytes are live at a, and the refusal
+-- how many bytes are shown at a, and the refusal
 pub record HeldTold (b : List ℕ) (a : ℕ) (r : Held) : Type 0 where
-  pub size : Checked wide b (λ k. 0) (λ L. capacity wide (find wide a L)) (r .size)
+  pub shown : Checked wide b (λ k. 0) (λ L. shownOf wide (find wide a L)) (r .shown)
   pub refusal : RefusalTold b a (r .refusal)
-  pub within : (r .size ≡ 0 → ⊥) → a + r .size ≤ length b
+  pub within : (r .shown ≡ 0 → ⊥) → a + r .shown ≤ length b

@@ -4,13 +4,13 @@ use crate::Verdict;
 use crate::WORD;
 use crate::examine;
 use crate::refusal_number;
-use holding::capacity;
+use holding::shown;
 use model::Address;
-ghost use Rattle.heap.specs.Lookup.{HeldTold, Part, PartTold, RefusalTold};
+ghost use Rattle.heap.specs.Lookup.{HeldTold, Part, RefusalTold};
 
-// How many bytes are live at an address, 0 where refused; and the refusal number.
+// How many bytes are shown at an address, 0 where refused; and the refusal number.
 struct Held {
-    pub size: usize,
+    pub shown: usize,
     pub refusal: u64,
 }
 
@@ -22,34 +22,34 @@ fn held_at(h: &[u8], a: Address) -> Held
         Verdict::Unfit(k) => {
             let n = refusal_number(k);
             Held {
-                size: 0,
+                shown: 0,
                 refusal: n,
             }
         }
         Verdict::Fine => {
-            let n = capacity(WORD, h, a);
+            let n = shown(WORD, h, a);
             if n == 0 {
                 let k = refusal_number(Refusal::NotLive);
                 return Held {
-                    size: 0,
+                    shown: 0,
                     refusal: k,
                 };
             }
             Held {
-                size: n,
+                shown: n,
                 refusal: 0,
             }
         }
     }
 }
 
-// The whole capacity at a; empty where refused.
+// What is live at a: of an item as many bytes as were asked for, of a block its whole capacity; empty where refused.
 pub fn look_up(h: &[u8], a: Address) -> &[u8]
     ensures { λ r. ⌜ Part (h .entry) (a .0) r ⌝ }
 {
     let at = a.0;
     let x = held_at(h, a);
-    let n = x.size;
+    let n = x.shown;
     if n == 0 {
         return &h[0..0];
     }
@@ -62,7 +62,7 @@ pub fn look_up_mut(h: &mut [u8], a: Address) -> &mut [u8]
 {
     let at = a.0;
     let x = held_at(&*h, a);
-    let n = x.size;
+    let n = x.shown;
     if n == 0 {
         return &mut h[0..0];
     }

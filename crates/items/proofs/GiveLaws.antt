@@ -1,4 +1,4 @@
--- An item in use goes back to its list: what is read and what is written.
+-- An item in use goes back to its list, or is for another size from now on: what is read and what is written.
 use Prim.Native.Nat.{ℕ, _+_, _*_, _<_, _≤_}
 use mathlib.Core.Path.{_≡_, sym, ap, subst, _∙_}
 use mathlib.Core.List.{List, []}
@@ -6,24 +6,25 @@ use native.Mathlib.Omega.{arith}
 use lib.ListN.{length, getD}
 use Rattle.words.specs.Width.{Width}
 use Rattle.words.specs.Word.{wordAt, put, Bytes}
-use Rattle.model.specs.Shape.{shape, offsetOf, endOf, index, start}
-use Rattle.model.specs.Parts.{freeHeader, headAt}
+use Rattle.model.specs.Shape.{shape, classOf, offsetOf, endOf, index, start}
+use Rattle.model.specs.Parts.{freeHeader, heldHeader, headAt}
 use Rattle.model.specs.Layout.{Layout, headOf}
 use Rattle.model.specs.Sound.{Here}
-use Rattle.model.specs.Rules.{thing, find, freed}
+use Rattle.model.specs.Rules.{thing, find, freed, renewed}
 use Rattle.model.specs.Calls.{drawn}
 use Rattle.model.proofs.Good.{shape-good}
 use Rattle.model.proofs.pictures.Drawn.{head-of, listed-below}
 use Rattle.model.proofs.items.Items.{blocks-range}
 use Rattle.model.proofs.pictures.Shown.{head-read}
-use Rattle.model.proofs.items.Push.{pushed-here, push-law}
+use Rattle.model.proofs.items.Asked.{within-own}
+use Rattle.model.proofs.items.Push.{pushed-here, push-law, renewed-here, renew-law}
 use Rattle.model.proofs.walks.Finding.{ItemFound, item-found}
-use Rattle.items.specs.Items.{ItemLive, GaveItem}
+use Rattle.items.specs.Items.{ItemLive, GaveItem, RenewedItem}
 use Rattle.model.proofs.Sizes.{words-fit}
 
-module _ {w : ℕ} (wd : Width w) (b : List ℕ) (L : Layout) (a q c : ℕ) (h : Here (shape w) b L) (short : length b ≤ shape w .most) (low : index (shape w) ≤ q) (f : find (shape w) a L ≡ thing (offsetOf (shape w) q) c) where
-  found : ItemFound (shape w) (shape-good wd) a (offsetOf (shape w) q) c (start (shape w)) (L .blocks)
-  found = item-found (shape w) (shape-good wd) a (offsetOf (shape w) q) c (start (shape w)) (L .blocks) (omega arith) (h .valid .allowed) f
+module _ {w : ℕ} (wd : Width w) (b : List ℕ) (L : Layout) (a q c k : ℕ) (h : Here (shape w) b L) (short : length b ≤ shape w .most) (low : index (shape w) ≤ q) (f : find (shape w) a L ≡ thing (offsetOf (shape w) q) c k) where
+  found : ItemFound (shape w) (shape-good wd) a (offsetOf (shape w) q) c k (start (shape w)) (L .blocks)
+  found = item-found (shape w) (shape-good wd) a (offsetOf (shape w) q) c k (start (shape w)) (L .blocks) (omega arith) (h .valid .allowed) f
 
   pub record Numbers : Type 0 where
     pub class : c < shape w .classes
@@ -43,33 +44,44 @@ module _ {w : ℕ} (wd : Width w) (b : List ℕ) (L : Layout) (a q c : ℕ) (h :
         read = head-read (shape w) b L h c (found .class);
       }
 
-  pub given-here : Here (shape w) (drawn (shape w) (freed (shape w) (thing (offsetOf (shape w) q) c) L) b) (freed (shape w) (thing (offsetOf (shape w) q) c) L)
+  pub given-here : Here (shape w) (drawn (shape w) (freed (shape w) (thing (offsetOf (shape w) q) c k) L) b) (freed (shape w) (thing (offsetOf (shape w) q) c k) L)
   unfolding freed
-  given-here = pushed-here (shape w) (shape-good wd) b L h c (offsetOf (shape w) q) (found .class) (found .there) (found .in-use) short
+  given-here = pushed-here (shape w) (shape-good wd) b L h c (offsetOf (shape w) q) k (found .class) (found .there) (found .in-use) short
 
-  pub given-drawn : Bytes b → (first : ℕ) → first ≡ wordAt w b (headAt (shape w) c) → put w (put w b (headAt (shape w) c) (offsetOf (shape w) q)) q (freeHeader c first) ≡ drawn (shape w) (freed (shape w) (thing (offsetOf (shape w) q) c) L) b
+  pub given-drawn : Bytes b → (first : ℕ) → first ≡ wordAt w b (headAt (shape w) c) → put w (put w b (headAt (shape w) c) (offsetOf (shape w) q)) q (freeHeader c first) ≡ drawn (shape w) (freed (shape w) (thing (offsetOf (shape w) q) c k) L) b
   unfolding freed
   given-drawn bytes first e =
       let n = numbers in
       let q′ : index (shape w) + offsetOf (shape w) q ≡ q = omega arith in
       let fe : first ≡ headOf (getD (L .lists) c []) = e ∙ n .read in
-      let law = push-law (shape w) (shape-good wd) b L h c (offsetOf (shape w) q) (found .class) (found .there) (found .in-use) short bytes (omega (arith, n .inside, words-fit wd (length b) short)) (omega (arith, n .class, words-fit wd (headOf (getD (L .lists) c [])) (n .head))) in
+      let law = push-law (shape w) (shape-good wd) b L h c (offsetOf (shape w) q) k (found .class) (found .there) (found .in-use) short bytes (omega (arith, n .inside, words-fit wd (length b) short)) (omega (arith, n .class, words-fit wd (headOf (getD (L .lists) c [])) (n .head))) in
       rw fe (ap (λ (y : ℕ). put w (put w b (headAt (shape w) c) (offsetOf (shape w) q)) y (freeHeader c (headOf (getD (L .lists) c [])))) (sym q′) ∙ law)
 
+  -- and where it is for n bytes from now on
+  module _ (n : ℕ) (own : classOf n ≡ c) where
+    pub renewed-here-at : Here (shape w) (drawn (shape w) (renewed (shape w) n (offsetOf (shape w) q) L) b) (renewed (shape w) n (offsetOf (shape w) q) L)
+    renewed-here-at = renewed-here (shape w) (shape-good wd) b L h c (offsetOf (shape w) q) k (found .class) (found .there) (found .in-use) short n (within-own c n own)
+
+    pub renewed-drawn : Bytes b → put w b q (heldHeader c n) ≡ drawn (shape w) (renewed (shape w) n (offsetOf (shape w) q) L) b
+    renewed-drawn bytes =
+        let q′ : index (shape w) + offsetOf (shape w) q ≡ q = omega arith in
+        let law = renew-law (shape w) (shape-good wd) b L h c (offsetOf (shape w) q) k (found .class) (found .there) (found .in-use) short n (within-own c n own) bytes in
+        ap (λ (y : ℕ). put w b y (heldHeader c n)) (sym q′) ∙ law
+
 module _ {w : ℕ} (b : List ℕ) (q c : ℕ) (k : ItemLive w b q c) where
-  pub give-numbers : Numbers (k .width) b (k .layout) (k .address) q c (k .here) (k .short) (k .low) (k .found)
-  give-numbers = numbers (k .width) b (k .layout) (k .address) q c (k .here) (k .short) (k .low) (k .found)
+  pub give-numbers : Numbers (k .width) b (k .layout) (k .address) q c (k .asked) (k .here) (k .short) (k .low) (k .found)
+  give-numbers = numbers (k .width) b (k .layout) (k .address) q c (k .asked) (k .here) (k .short) (k .low) (k .found)
 
   pub give-law : Bytes b → (first : ℕ) → first ≡ wordAt w b (headAt (shape w) c) → (d e : List ℕ) → d ≡ put w b (headAt (shape w) c) (offsetOf (shape w) q) → e ≡ put w d q (freeHeader c first) → GaveItem w b q c e
   give-law bytes first ef d e ed ee =
       let all : e ≡ put w (put w b (headAt (shape w) c) (offsetOf (shape w) q)) q (freeHeader c first) = rw ed at ee in
       record {
-        draws = λ L a h f. all ∙ given-drawn (k .width) b L a q c h (k .short) (k .low) f bytes first ef;
+        draws = λ L a m h f. all ∙ given-drawn (k .width) b L a q c m h (k .short) (k .low) f bytes first ef;
         sound = record {
-          layout = freed (shape w) (thing (offsetOf (shape w) q) c) (k .layout);
-          here = subst (λ (y : List ℕ). Here (shape w) y (freed (shape w) (thing (offsetOf (shape w) q) c) (k .layout)))
-              (sym (all ∙ given-drawn (k .width) b (k .layout) (k .address) q c (k .here) (k .short) (k .low) (k .found) bytes first ef))
-              (given-here (k .width) b (k .layout) (k .address) q c (k .here) (k .short) (k .low) (k .found));
+          layout = freed (shape w) (thing (offsetOf (shape w) q) c (k .asked)) (k .layout);
+          here = subst (λ (y : List ℕ). Here (shape w) y (freed (shape w) (thing (offsetOf (shape w) q) c (k .asked)) (k .layout)))
+              (sym (all ∙ given-drawn (k .width) b (k .layout) (k .address) q c (k .asked) (k .here) (k .short) (k .low) (k .found) bytes first ef))
+              (given-here (k .width) b (k .layout) (k .address) q c (k .asked) (k .here) (k .short) (k .low) (k .found));
         };
       }
 
@@ -79,3 +91,15 @@ module _ {w : ℕ} (b : List ℕ) (q c : ℕ) (k : ItemLive w b q c) where
 
   pub give-first : (head first : ℕ) → head ≡ headAt (shape w) c → first ≡ wordAt w b head → first ≤ shape w .most
   give-first head first eh ef = let n = give-numbers in omega (arith, rw eh at ef, n .read, n .head)
+
+  pub renew-at : (n : ℕ) → classOf n ≡ c → Bytes b → (d : List ℕ) → d ≡ put w b q (heldHeader c n) → RenewedItem w b q c n d
+  renew-at n own bytes d ed =
+      record {
+        draws = λ L a m h f. ed ∙ renewed-drawn (k .width) b L a q c m h (k .short) (k .low) f n own bytes;
+        sound = record {
+          layout = renewed (shape w) n (offsetOf (shape w) q) (k .layout);
+          here = subst (λ (y : List ℕ). Here (shape w) y (renewed (shape w) n (offsetOf (shape w) q) (k .layout)))
+              (sym (ed ∙ renewed-drawn (k .width) b (k .layout) (k .address) q c (k .asked) (k .here) (k .short) (k .low) (k .found) n own bytes))
+              (renewed-here-at (k .width) b (k .layout) (k .address) q c (k .asked) (k .here) (k .short) (k .low) (k .found) n own);
+        };
+      }

@@ -2,6 +2,7 @@
 use Prim.Native.Nat.{ℕ, zero, suc, _+_, _-_, _*_, _/_, _%_, _^_, _≤_, _<_}
 use mathlib.Core.Path.{_≡_, refl, sym, ap, subst, _∙_}
 use mathlib.Core.List.{List, [], _∷_}
+use mathlib.Core.Logic.{_⊎_, inl, inr}
 use native.Mathlib.Omega.{arith}
 use native.Mathlib.Decide.{ℕ-discrete, decLe}
 use native.Mathlib.Nat.{mul-le-mul-right}
@@ -11,68 +12,84 @@ use Rattle.words.specs.Width.{Width}
 use Rattle.words.specs.Word.{wordAt}
 use Rattle.words.specs.Bits.{marked}
 use Rattle.model.specs.Shape.{shape, itemSize, index, offsetOf, leastFree, leastVariable, pageNeed}
-use Rattle.model.specs.Parts.{variableKind, pageKind, freeMark, heldHeader, classAndFlags, classIn, firstItemAt}
+use Rattle.model.specs.Parts.{variableKind, pageKind, freeFlags, freeMark, heldHeader, flagsIn, classAndFlags, classIn, firstItemAt}
+use Rattle.model.specs.inner.Headers.{leastHeader, SameClass}
 use Rattle.model.specs.Layout.{Slot, idle, held, Use, variable, page, used, useSize, sizeOf}
-use Rattle.model.specs.Sound.{Allowed, AllowedUse, idleSlots}
+use Rattle.model.specs.Sound.{Within, AllWithin, Allowed, AllowedUse, idleSlots}
+use Rattle.model.proofs.items.Asked.{idle-within}
 use Rattle.model.proofs.Sizes.{per-page-bound, page-items-bound, page-product, class-few, class-held, page-eight, first-even}
 use Rattle.model.proofs.walks.Standing.{sizes}
-use Rattle.marking.specs.Uses.{Slots, Items, useKind, Headers, UseAt, freeIn}
+use Rattle.marking.specs.Uses.{Slots, Items, Right, AllRight, classAt, PageRight, useKind, Headers, UseAt, freeIn}
 use Rattle.marking.specs.Maps.{NoMarks, offsetBit, atBit, mapEnd}
-use Rattle.marking.specs.Told.{MapSize, Marking, MarkRoom, ItemsMarked, ItemsTold, PageRoom, UseMarked, PageTold}
+use Rattle.marking.specs.Told.{MapSize, Marking, MarkRoom, ItemsMarked, ItemsTold, PageItems, Judged, PageRoom, UseMarked, PageTold}
+use Rattle.marking.specs.declared.pages.Tally.{Tally}
+use Rattle.marking.proofs.Rights.{or-near, near-right, right-in, right-out, right-none, items-right}
 use Rattle.marking.specs.declared.map.Marks.{Marks}
-use Rattle.marking.specs.declared.map.Marks.the-variants.{Unsound, Count}
-use Rattle.marking.proofs.Counts.{no-count, count-no, count-same}
+use Rattle.marking.specs.declared.map.Marks.the-variants.{Unsound}
+use Rattle.marking.proofs.Counts.{no-count}
 use Rattle.marking.proofs.MapLaws.{adds-none, adds-mark, marking-on, marking-more, length-marked}
 use Rattle.marking.proofs.Places.{near-parts, far-part, or-low, no-flags, bit-room, bit-step, bits-less, bits-order, bits-stop, bits-within, bit-least, map-end-bound, first-bit}
 
 -- a header of an item of class c: of a free one, or of one in use
 pub data Header (w : ℕ) (b : List ℕ) (c q : ℕ) : Type 0 where
   of-idle : classAndFlags (shape w) (wordAt w b q) ≡ freeMark c → Header w b c q
-  of-held : wordAt w b q ≡ heldHeader c → Header w b c q
+  of-held : (n : ℕ) → wordAt w b q ≡ heldHeader c n → Header w b c q
 
 pub items-in : {w : ℕ} (b : List ℕ) (c q n : ℕ) → (n ≡ 0 → ⊥) → Items w b c q n → Header w b c q × Items w b c (q + itemSize (shape w) c) (n - 1)
-unfolding Slots
-items-in {w} b c q n z r = go (r .slots) (r .count) (r .headers)
+unfolding Slots AllWithin
+items-in {w} b c q n z r = go (r .slots) (r .count) (r .headers) (r .within)
   where
-    go : (ss : List Slot) → length ss ≡ n → Slots w b c q ss → Header w b c q × Items w b c (q + itemSize (shape w) c) (n - 1)
-    go [] e h = absurd (z (sym e))
-    go (idle ∷ ss) e h = (of-idle (h .0), record { slots = ss; count = omega arith; headers = h .1 })
-    go (held ∷ ss) e h = (of-held (h .0), record { slots = ss; count = omega arith; headers = h .1 })
+    go : (ss : List Slot) → length ss ≡ n → Slots w b c q ss → AllWithin c ss → Header w b c q × Items w b c (q + itemSize (shape w) c) (n - 1)
+    go [] e h a = absurd (z (sym e))
+    go (idle ∷ ss) e h a = (of-idle (h .0), record { slots = ss; count = omega arith; headers = h .1; within = a .1 })
+    go (held k ∷ ss) e h a = (of-held k (h .0), record { slots = ss; count = omega arith; headers = h .1; within = a .1 })
 
 items-none : {w : ℕ} → Width w → (b : List ℕ) (c q : ℕ) (m : List ℕ) → ItemsMarked w b c q 0 m m
-unfolding Slots idleSlots
-items-none wd b c q m = record { items = record { slots = []; count = refl; headers = tt }; adds = adds-none wd m }
+unfolding Slots idleSlots AllWithin
+items-none wd b c q m = record { items = record { slots = []; count = refl; headers = tt; within = tt }; adds = adds-none wd m }
 
 items-idle : {w : ℕ} → Width w → {b : List ℕ} {c n : ℕ} {m m₁ m′ : List ℕ} (i : ℕ) → (n ≡ 0 → ⊥) → classAndFlags (shape w) (wordAt w b (atBit w i)) ≡ freeMark c → atBit w i < mapEnd w (length m) → NoMarks w m (atBit w i) → m₁ ≡ marked m i
     → ItemsMarked w b c (atBit w i + itemSize (shape w) c) (n - 1) m₁ m′ → ItemsMarked w b c (atBit w i) n m m′
-unfolding Slots idleSlots
+unfolding Slots idleSlots AllWithin
 items-idle {w} wd {b} {c} {n} {m} i z e u k em r =
     record {
-      items = record { slots = idle ∷ r .items .slots; count = omega (arith, r .items .count); headers = (e, r .items .headers) };
+      items = record { slots = idle ∷ r .items .slots; count = omega (arith, r .items .count); headers = (e, r .items .headers); within = (idle-within c, r .items .within) };
       adds = adds-mark wd i (atBit w i - index (shape w)) (bit-room wd i (length m) u) (k .from i (omega arith)) em (omega arith) (r .adds);
     }
 
-items-held : {w : ℕ} {b : List ℕ} {c q n : ℕ} {m m′ : List ℕ} → (n ≡ 0 → ⊥) → wordAt w b q ≡ heldHeader c → ItemsMarked w b c (q + itemSize (shape w) c) (n - 1) m m′ → ItemsMarked w b c q n m m′
-unfolding Slots idleSlots
-items-held z e r = record { items = record { slots = held ∷ r .items .slots; count = omega (arith, r .items .count); headers = (e, r .items .headers) }; adds = r .adds }
+items-held : {w : ℕ} {b : List ℕ} {c q n : ℕ} {m m′ : List ℕ} → (n ≡ 0 → ⊥) → (k : ℕ) × (wordAt w b q ≡ heldHeader c k) × Within c (held k) → ItemsMarked w b c (q + itemSize (shape w) c) (n - 1) m m′ → ItemsMarked w b c q n m m′
+unfolding Slots idleSlots AllWithin
+items-held z e r = record { items = record { slots = held (e .0) ∷ r .items .slots; count = omega (arith, r .items .count); headers = (e .1, r .items .headers); within = (e .2, r .items .within) }; adds = r .adds }
 
--- the marking of a page's items stands at bit i: `left` of them are ahead, n would be marked if all of these were free, and all that are marked are free exactly where `wrong` has no class and flags
-pub record ItemsInv (w : ℕ) (b m₀ : List ℕ) (first stop c : ℕ) (m : List ℕ) (n wrong i : ℕ) : Type 0 where
+-- the marking of a page's items stands at bit i, with n marks so far: `left` of them are ahead; all that are marked are free exactly where `wrong` has no class and flags, and those in use are right where `above` is less than a class
+pub record ItemsInv (w : ℕ) (b m₀ : List ℕ) (first stop c : ℕ) (m : List ℕ) (n wrong above i : ℕ) : Type 0 where
   pub width : Width w
   pub left : ℕ
   pub stops : atBit w stop ≡ atBit w i + left * itemSize (shape w) c
   pub ahead : Items w b c (atBit w first) (shape w .perPage c) → Items w b c (atBit w i) left
-  pub back : classAndFlags (shape w) wrong ≡ 0 → (m′ : List ℕ) → ItemsMarked w b c (atBit w i) left m m′ → ItemsMarked w b c (atBit w first) (shape w .perPage c) m₀ m′
+  pub rights : AllRight w b c (atBit w first) (shape w .perPage c) → AllRight w b c (atBit w i) left
+  pub near : SameClass above → AllRight w b c (atBit w i) left → AllRight w b c (atBit w first) (shape w .perPage c)
+  pub back : classAndFlags (shape w) wrong ≡ 0 → AllRight w b c (atBit w first) (shape w .perPage c) → (m′ : List ℕ) → ItemsMarked w b c (atBit w i) left m m′ → ItemsMarked w b c (atBit w first) (shape w .perPage c) m₀ m′
   pub bad : (classAndFlags (shape w) wrong ≡ 0 → ⊥) → Items w b c (atBit w first) (shape w .perPage c) → ⊥
-  pub marks : ℕ
-  pub all : n ≡ marks + left
-  pub marking : Marking w m marks (atBit w i)
+  pub marking : Marking w m n (atBit w i)
   pub map : atBit w stop ≤ mapEnd w (length m)
   pub size : length m ≡ length m₀
 
-pub items-start : {w : ℕ} {b m : List ℕ} {i stop c n : ℕ} → MarkRoom w b m i stop c n → ItemsInv w b m i stop c m n 0 i
+pub items-start : {w : ℕ} {b m : List ℕ} {i stop c n : ℕ} → MarkRoom w b m i stop c n → ItemsInv w b m i stop c m n 0 0 i
 items-start r =
-    record { width = r .width; left = _; stops = r .stops; ahead = λ i. i; back = λ _ m′ i. i; bad = λ f. absurd (f (no-flags (r .width))); marks = _; all = r .most; marking = r .marking; map = r .map; size = refl }
+    record {
+      width = r .width;
+      left = _;
+      stops = r .stops;
+      ahead = λ i. i;
+      rights = λ a. a;
+      near = λ _ a. a;
+      back = λ _ _ m′ i. i;
+      bad = λ f. absurd (f (no-flags (r .width)));
+      marking = r .marking;
+      map = r .map;
+      size = refl;
+    }
 
 -- there is a first item
 pub items-first : {w : ℕ} {b m : List ℕ} {i stop c n : ℕ} → MarkRoom w b m i stop c n → i < stop
@@ -82,15 +99,11 @@ items-first {w} {i = i} {stop = stop} {c = c} r = go (decLe stop i)
     go (yes h) = absurd (omega (arith, bits-order (r .width) stop i h, r .stops, mul-le-mul-right (itemSize (shape w) c) (per-page-bound (r .width) c .0)))
     go (no h) = omega (arith, h)
 
-one-less : (m : ℕ) → (m ≡ 0 → ⊥) → m - 1 + 1 ≡ m
-one-less zero z = absurd (z refl)
-one-less (suc m) z = omega arith
-
 pred-mul : (m k : ℕ) → (m ≡ 0 → ⊥) → k + (m - 1) * k ≡ m * k
 pred-mul zero k z = absurd (z refl)
 pred-mul (suc m) k z = let e : suc m - 1 ≡ m = omega arith in rw e (omega arith)
 
-module _ {w : ℕ} {b m₀ : List ℕ} {first stop c : ℕ} {m : List ℕ} {n wrong i : ℕ} (v : ItemsInv w b m₀ first stop c m n wrong i) where
+module _ {w : ℕ} {b m₀ : List ℕ} {first stop c : ℕ} {m : List ℕ} {n wrong above i : ℕ} (v : ItemsInv w b m₀ first stop c m n wrong above i) where
   -- a bit before another is that of an earlier item
   at-less : i < stop → atBit w i < atBit w stop
   at-less h = bits-less (v .width) i stop h
@@ -110,37 +123,33 @@ module _ {w : ℕ} {b m₀ : List ℕ} {first stop c : ℕ} {m : List ℕ} {n wr
       let more : s ≡ 0 → ⊥ = λ z. omega (arith, v .width .least, ap (λ (x : ℕ). atBit w (i + x)) z) in
       (omega arith, l, omega (arith, bit-least (v .width) stop), omega (arith, items-fit h))
 
-  -- an item in use is not marked
-  pub items-some-left : i < stop → 1 ≤ n
-  items-some-left h = go (v .left) refl
-    where
-      go : (k : ℕ) → v .left ≡ k → 1 ≤ n
-      go zero e = absurd (items-some h e)
-      go (suc k) e = omega (arith, v .all, e)
-
   module _ (h : i < stop) (x s : ℕ) (e : x ≡ wordAt w b (atBit w i)) (es : s ≡ itemSize (shape w) c / w) where
     -- where the next item is
     next-at : atBit w (i + s) ≡ atBit w i + itemSize (shape w) c
     next-at = bit-step (v .width) i c s es
 
-    pub items-turn-held : x ≡ heldHeader c → ItemsInv w b m₀ first stop c m (n - 1) wrong (i + s)
-    items-turn-held f =
+    right-next : AllRight w b c (atBit w first) (shape w .perPage c) → AllRight w b c (atBit w (i + s)) (v .left - 1)
+    right-next k = rw next-at (right-in w b c (atBit w i) (v .left) (items-some h) (v .rights k) .1)
+
+    -- an item in use is passed, and y is the difference of its header and the least of its class
+    pub items-turn-held : freeFlags < flagsIn x → c < 2 ^ 16 → (y : ℕ) → y < 2 ^ 64 → (y + leastHeader c) % 2 ^ 64 ≡ x → ItemsInv w b m₀ first stop c m n wrong (bitOr above y) (i + s)
+    items-turn-held f few y fits ey =
         record {
           width = v .width;
           left = v .left - 1;
           stops = omega (arith, next-at, v .stops, pred-mul (v .left) (itemSize (shape w) c) (items-some h));
           ahead = λ k. rw next-at (items-in b c (atBit w i) (v .left) (items-some h) (v .ahead k) .1);
-          back = λ ok m′ r. v .back ok m′ (items-held (items-some h) (sym e ∙ f) (rw next-at at r));
+          rights = right-next;
+          near = λ z r. let k = or-near above y z in v .near (k .0) (right-out w b c (atBit w i) (v .left) (items-some h) (subst (λ (z : ℕ). Right c z) e (λ g. near-right c x y few fits ey (k .1))) (rw next-at at r));
+          back = λ ok a m′ r. v .back ok a m′ (items-held (items-some h) (right-in w b c (atBit w i) (v .left) (items-some h) (v .rights a) .0 (rw e at f)) (rw next-at at r));
           bad = v .bad;
-          marks = v .marks;
-          all = omega (arith, v .all, one-less (v .left) (items-some h));
           marking = rw next-at (marking-on (omega arith) (v .marking));
           map = v .map;
           size = v .size;
         }
 
-    -- any other is, and y is the difference of its header and a free one's
-    module _ (f : x ≡ heldHeader c → ⊥) (few : c < shape w .classes) (y : ℕ) (fits : y < 2 ^ 64) (ey : (y + freeMark c) % 2 ^ 64 ≡ x) where
+    -- any other is marked, and y is the difference of its header and a free one's
+    module _ (f : flagsIn x ≤ freeFlags) (few : c < shape w .classes) (y : ℕ) (fits : y < 2 ^ 64) (ey : (y + freeMark c) % 2 ^ 64 ≡ x) where
       right : classAndFlags (shape w) y ≡ 0 → classAndFlags (shape w) x ≡ freeMark c
       right z = go (ℕ-discrete (classAndFlags (shape w) x) (freeMark c))
         where
@@ -154,48 +163,48 @@ module _ {w : ℕ} {b m₀ : List ℕ} {first stop c : ℕ} {m : List ℕ} {n wr
           go : Dec (classAndFlags (shape w) wrong ≡ 0) → Header w b c (atBit w i) → ⊥
           go (no a) u = v .bad a k
           go (yes a) (of-idle u) = g (or-low (v .width) wrong y .1 (a, near-parts (v .width) x y c few fits ey (rw e u) .0))
-          go (yes a) (of-held u) = f (e ∙ u)
+          go (yes a) (of-held k u) = omega (arith, f, e ∙ u)
 
-      pub items-turn-idle : (m₁ : List ℕ) → m₁ ≡ marked m i → ItemsInv w b m₀ first stop c m₁ n (bitOr wrong y) (i + s)
+      pub items-turn-idle : (m₁ : List ℕ) → m₁ ≡ marked m i → ItemsInv w b m₀ first stop c m₁ (n + 1) (bitOr wrong y) above (i + s)
       items-turn-idle m₁ em =
           record {
             width = v .width;
             left = v .left - 1;
             stops = omega (arith, next-at, v .stops, pred-mul (v .left) (itemSize (shape w) c) (items-some h));
             ahead = λ k. rw next-at (items-in b c (atBit w i) (v .left) (items-some h) (v .ahead k) .1);
-            back = λ ok m′ r. let z = or-low (v .width) wrong y .0 ok in v .back (z .0) m′ (items-idle (v .width) i (items-some h) (rw e at (right (z .1))) (omega (arith, v .map, at-less h)) (v .marking .clear) em (rw next-at at r));
+            rights = right-next;
+            near = λ z r. v .near z (right-out w b c (atBit w i) (v .left) (items-some h) (subst (λ (z : ℕ). Right c z) e not-held) (rw next-at at r));
+            back = λ ok a m′ r. let z = or-low (v .width) wrong y .0 ok in v .back (z .0) a m′ (items-idle (v .width) i (items-some h) (rw e at (right (z .1))) (omega (arith, v .map, at-less h)) (v .marking .clear) em (rw next-at at r));
             bad = is-bad;
-            marks = v .marks + 1;
-            all = omega (arith, v .all, one-less (v .left) (items-some h));
             marking = rw next-at (marking-more (v .width) i (itemSize (shape w) c) (omega (arith, v .map, at-less h)) (omega arith) em (v .marking));
             map = rw (length-marked m m₁ i em) (v .map);
             size = length-marked m m₁ i em ∙ v .size;
           }
+        where
+          not-held : Right c x
+          not-held g = absurd (omega (arith, f, g))
 
-  pub items-wrong : (classAndFlags (shape w) wrong ≡ 0 → ⊥) → (m′ : List ℕ) → ItemsTold w b m₀ first stop c Unsound m′
-  items-wrong f m′ = record { is-no = λ _ k. v .bad f k; is-yes = λ n y. absurd (no-count y) }
-
-  pub items-done : stop ≤ i → classAndFlags (shape w) wrong ≡ 0 → ItemsTold w b m₀ first stop c (Count n) m
-  items-done h ok = record { is-no = λ y. absurd (count-no y); is-yes = λ k y. rw (← count-same y) (go (v .left) refl) }
+  -- what the tally tells
+  pub items-told : stop ≤ i → ItemsTold w b m₀ first stop c (record { marks = n; wrong = wrong; above = above }) m
+  items-told h = go (v .left) refl
     where
-      go : (k : ℕ) → v .left ≡ k → ItemsMarked w b c (atBit w first) (shape w .perPage c) m₀ m × Marking w m n (atBit w stop)
+      go : (k : ℕ) → v .left ≡ k → ItemsTold w b m₀ first stop c (record { marks = n; wrong = wrong; above = above }) m
       go (suc k) e = absurd (omega (arith, v .width .least, v .stops, bits-order (v .width) stop i h, ap (λ (x : ℕ). atBit w i + x * itemSize (shape w) c) e))
       go zero e =
           let at-end : atBit w stop ≡ atBit w i = omega (arith, v .stops, ap (λ (x : ℕ). atBit w i + x * itemSize (shape w) c) e) in
-          let n-is : n ≡ v .marks = omega (arith, v .all, e) in
-          (v .back ok m (rw e (items-none (v .width) b c (atBit w i) m)), rw (at-end, n-is) (v .marking))
-
--- the class that the first header of a page at p says
-abbrev pub classAt : ℕ → List ℕ → ℕ → ℕ
-classAt w b p = classIn (shape w) (wordAt w b (firstItemAt (shape w) p))
+          record {
+            bad = v .bad;
+            near = λ s. v .near s (right-none w b c (atBit w i) (v .left) e);
+            good = λ ok a. (v .back ok a m (rw e (items-none (v .width) b c (atBit w i) m)), rw at-end (v .marking));
+          }
 
 header-class : {w : ℕ} → Width w → (b : List ℕ) (c q : ℕ) → c < shape w .classes → Header w b c q → c ≡ classIn (shape w) (wordAt w b q)
 header-class wd b c q h (of-idle e) = omega arith
-header-class {w} wd b c q h (of-held e) = sym (ap (λ (x : ℕ). classIn (shape w) x) e ∙ class-held wd c 0 h)
+header-class {w} wd b c q h (of-held n e) = sym (ap (λ (x : ℕ). classIn (shape w) x) e ∙ class-held wd c n h)
 
 pub page-class : {w : ℕ} → Width w → (b : List ℕ) (c k p : ℕ) (ss : List Slot) → AllowedUse (shape w) (page c k ss) → Slots w b c (firstItemAt (shape w) p) ss → c ≡ classAt w b p
 unfolding AllowedUse
-page-class {w} wd b c k p ss a h = header-class wd b c (firstItemAt (shape w) p) (a .0) (items-in b c (firstItemAt (shape w) p) (shape w .perPage c) (λ z. omega (arith, per-page-bound wd c)) (record { slots = ss; count = a .1; headers = h }) .0)
+page-class {w} wd b c k p ss a h = header-class wd b c (firstItemAt (shape w) p) (a .0) (items-in b c (firstItemAt (shape w) p) (shape w .perPage c) (λ z. omega (arith, per-page-bound wd c)) (record { slots = ss; count = a .1; headers = h; within = a .4 }) .0)
 
 -- what holds of a page
 pub record PageIs (w : ℕ) (b : List ℕ) (p s c : ℕ) : Type 0 where
@@ -207,7 +216,7 @@ page-is : {w : ℕ} (b : List ℕ) (p s c k : ℕ) (ss : List Slot) → AllowedU
 unfolding AllowedUse useSize
 page-is {w} b p s c k ss a e h =
     let z : pageNeed (shape w) c + k ≡ s = rw (a .1) at e in
-    record { least-size = omega (arith, z); most-size = omega (arith, z, a .2); items = record { slots = ss; count = a .1; headers = h } }
+    record { least-size = omega (arith, z); most-size = omega (arith, z, a .2); items = record { slots = ss; count = a .1; headers = h; within = a .4 } }
 
 pub page-in : {w : ℕ} → Width w → (b : List ℕ) (p s : ℕ) → UseAt w b p s pageKind → PageIs w b p s (classAt w b p)
 unfolding useKind Headers
@@ -224,7 +233,7 @@ page-out {w} wd b p s c m m′ lc a l h i =
     record {
       use-at = record {
         use-is = page c (s - pageNeed (shape w) c) (i .items .slots);
-        allowed = (lc, i .items .count, omega arith, omega (arith, page-eight wd c));
+        allowed = (lc, i .items .count, omega arith, omega (arith, page-eight wd c), i .items .within);
         size = rw (i .items .count) (omega arith);
         kind-is = refl;
         headers = i .items .headers;
@@ -293,7 +302,7 @@ module _ {w : ℕ} {b m : List ℕ} {p s n : ℕ} (room : PageRoom w b m p s n) 
       pub page-stop : i + items * z / w < 2 ^ 32
       page-stop = omega (arith, bit-least (room .width) (i + items * z / w), to, eq, page-taken, room .map, map-end-bound (room .width) (length m) (room .size .few))
 
-      pub page-room : MarkRoom w b m i (i + items * z / w) c (n + items)
+      pub page-room : MarkRoom w b m i (i + items * z / w) c n
       page-room =
           record {
             width = room .width;
@@ -303,14 +312,39 @@ module _ {w : ℕ} {b m : List ℕ} {p s n : ℕ} (room : PageRoom w b m p s n) 
             inside = rw to (omega (arith, eq, page-taken, room .inside));
             map = rw to (omega (arith, eq, page-taken, room .map));
             size = room .size;
-            before = n;
-            most = rw ei refl;
             marking = rw from (marking-on (omega arith) (room .marking));
           }
 
-      pub page-told : s < k + leastFree (shape w) → (r : Marks) (m′ : List ℕ) → ItemsTold w b m i (i + items * z / w) c r m′ → PageTold w b m p s r m′
-      page-told h r m′ t =
-          record {
-            is-no = λ y u. t .is-no y (rw (from, eq) (is-page u .items));
-            is-yes = λ n y. (page-out (room .width) b p s c m m′ few (room .size-eight) (omega arith) (omega arith) (rw (from, eq) at (t .is-yes n y .0)), marking-on (omega (arith, eq, page-taken)) (rw to at (t .is-yes n y .1)));
-          }
+      -- the items that the page is judged by
+      class-is : c ≡ classAt w b p
+      class-is = ec ∙ ap (classIn (shape w)) (ex ∙ ap (wordAt w b) eq)
+
+      at-is : atBit w i ≡ firstItemAt (shape w) p
+      at-is = from ∙ eq
+
+      to-page : AllRight w b c (atBit w i) (shape w .perPage c) → PageRight w b p
+      to-page a = subst (λ (d : ℕ). AllRight w b d (firstItemAt (shape w) p) (shape w .perPage d)) class-is (subst (λ (x : ℕ). AllRight w b c x (shape w .perPage c)) at-is a)
+
+      of-page : PageRight w b p → AllRight w b c (atBit w i) (shape w .perPage c)
+      of-page a = subst (λ (x : ℕ). AllRight w b c x (shape w .perPage c)) (sym at-is) (subst (λ (d : ℕ). AllRight w b d (firstItemAt (shape w) p) (shape w .perPage d)) (sym class-is) a)
+
+      pub page-items : PageItems w b p
+      page-items = record { width = room .width; first = omega (arith, ek, l, room .inside); inside = subst (λ (d : ℕ). firstItemAt (shape w) p + shape w .perPage d * itemSize (shape w) d ≤ length b) class-is (omega (arith, ek, l, room .inside)) }
+
+      module _ (t : Tally) (m′ : List ℕ) (told : ItemsTold w b m i (i + items * z / w) c t m′) where
+        pub page-near : SameClass (t .above) → PageRight w b p
+        page-near a = to-page (told .near a)
+
+        pub page-told : s < k + leastFree (shape w) → (r : Marks) → Judged w b p t r → PageTold w b m p s r m′
+        page-told h r j =
+            record {
+              is-no = λ y u. not (j .is-no y) (rw (from, eq) (is-page u .items));
+              is-yes = λ n y.
+                  let g = j .is-yes n y in
+                  let d = told .good (g .0) (of-page (g .1)) in
+                  (page-out (room .width) b p s c m m′ few (room .size-eight) (omega arith) (omega arith) (rw (from, eq) at (d .0)), rw (g .2) (marking-on (omega (arith, eq, page-taken)) (rw to at (d .1))));
+            }
+          where
+            not : (classAndFlags (shape w) (t .wrong) ≡ 0 → ⊥) ⊎ (PageRight w b p → ⊥) → Items w b c (atBit w i) (shape w .perPage c) → ⊥
+            not (inl x) u = told .bad x u
+            not (inr x) u = x (to-page (items-right (room .width) b c (atBit w i) (shape w .perPage c) u))

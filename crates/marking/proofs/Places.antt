@@ -8,14 +8,14 @@ use Rattle.words.specs.Width.{Width}
 use Rattle.words.proofs.WidthLaws.{widths}
 use Rattle.words.proofs.HighLaws.{high-fits, high-none, high-far}
 use Rattle.model.specs.Shape.{shape, index, itemSize, offsetOf}
-use Rattle.model.specs.Parts.{freeHeader, heldHeader, freeMark, classAndFlags, nextIn}
+use Rattle.model.specs.Parts.{freeHeader, freeMark, classAndFlags, nextIn}
 use Rattle.marking.specs.Maps.{offsetBit, offsetAtBit, atBit, mapEnd, largeMap}
 
 -- a number or-ed with another is no less than either
 pub or-more : (a b : ℕ) → (a ≤ bitOr a b) × (b ≤ bitOr a b)
 or-more a b = (omega (arith, or-add-and a b, and-le-r a b), omega (arith, or-add-and a b, and-le-l a b))
 
-or-parts : (a b k : ℕ) → (bitOr a b % 2 ^ k ≡ 0 → (a % 2 ^ k ≡ 0) × (b % 2 ^ k ≡ 0)) × ((a % 2 ^ k ≡ 0) × (b % 2 ^ k ≡ 0) → bitOr a b % 2 ^ k ≡ 0)
+pub or-parts : (a b k : ℕ) → (bitOr a b % 2 ^ k ≡ 0 → (a % 2 ^ k ≡ 0) × (b % 2 ^ k ≡ 0)) × ((a % 2 ^ k ≡ 0) × (b % 2 ^ k ≡ 0) → bitOr a b % 2 ^ k ≡ 0)
 or-parts a b k = (λ e. (omega (arith, e, or-mod a b k, or-more (a % 2 ^ k) (b % 2 ^ k)), omega (arith, e, or-mod a b k, or-more (a % 2 ^ k) (b % 2 ^ k))), λ e. or-mod a b k ∙ rw (e .0, e .1) refl)
 
 module _ {w : ℕ} (wd : Width w) where
@@ -88,10 +88,7 @@ module _ {w : ℕ} (wd : Width w) where
   pub map-end-bound : (n : ℕ) → n ≤ largeMap → mapEnd w n < 2 ^ 32
   map-end-bound n = widths (λ w. n ≤ largeMap → mapEnd w n < 2 ^ 32) (omega arith) (omega arith) w wd
 
-  -- headers: of an item in use and of a free one; what the header of a free item names
-  pub not-both : (x c : ℕ) → classAndFlags (shape w) x ≡ freeMark c → x ≡ heldHeader c → ⊥
-  not-both x c = widths (λ w. classAndFlags (shape w) x ≡ freeMark c → x ≡ heldHeader c → ⊥) (omega arith) (omega arith) w wd
-
+  -- what the header of a free item names
   pub idle-low : (n c : ℕ) → n % w ≡ 0 → c < shape w .classes → classAndFlags (shape w) (freeHeader c n) ≡ freeMark c
   idle-low n c =
       widths (λ w. n % w ≡ 0 → c < shape w .classes → classAndFlags (shape w) (freeHeader c n) ≡ freeMark c) (omega arith) (omega arith) w wd

@@ -1,25 +1,41 @@
 -- What the bytes hold of a block in use: of a page, the headers of its items.
-use Prim.Native.Nat.{ℕ, _+_}
+use Prim.Native.Nat.{ℕ, zero, suc, _+_, _<_}
 use mathlib.Core.Path.{_≡_}
 use mathlib.Core.List.{List, [], _∷_}
 use lib.ListN.{length}
 use Rattle.words.specs.Word.{wordAt}
 use Rattle.model.specs.Shape.{shape, itemSize}
-use Rattle.model.specs.Parts.{variableKind, pageKind, freeMark, heldHeader, classAndFlags, firstItemAt}
+use Rattle.model.specs.Parts.{variableKind, pageKind, freeFlags, freeMark, heldHeader, flagsIn, classAndFlags, classIn, firstItemAt}
 use Rattle.model.specs.Layout.{Slot, idle, held, Use, variable, page, useSize}
-use Rattle.model.specs.Sound.{AllowedUse, idleSlots}
+use Rattle.model.specs.Sound.{Within, AllWithin, AllowedUse, idleSlots}
 
 -- the headers of a page's items from p on, whatever a free one names as the next
 unfoldable pub Slots : ℕ → List ℕ → ℕ → ℕ → List Slot → Type 0
 Slots w b c p [] = Unit {0}
 Slots w b c p (idle ∷ ss) = (classAndFlags (shape w) (wordAt w b p) ≡ freeMark c) × Slots w b c (p + itemSize (shape w) c) ss
-Slots w b c p (held ∷ ss) = (wordAt w b p ≡ heldHeader c) × Slots w b c (p + itemSize (shape w) c) ss
+Slots w b c p (held n ∷ ss) = (wordAt w b p ≡ heldHeader c n) × Slots w b c (p + itemSize (shape w) c) ss
 
 -- n items of class c have their headers from q on
 pub record Items (w : ℕ) (b : List ℕ) (c q n : ℕ) : Type 0 where
   pub slots : List Slot
   pub count : length slots ≡ n
   pub headers : Slots w b c q slots
+  pub within : AllWithin c slots
+
+-- the header x of an item of class c is a free one's by its flags, or is one's in use for a size that is not known or of that class; and so of n items from q on
+abbrev pub Right : ℕ → ℕ → Type 0
+Right c x = freeFlags < flagsIn x → (n : ℕ) × (x ≡ heldHeader c n) × Within c (held n)
+
+unfoldable pub AllRight : ℕ → List ℕ → ℕ → ℕ → ℕ → Type 0
+AllRight w b c q zero = Unit {0}
+AllRight w b c q (suc n) = Right c (wordAt w b q) × AllRight w b c (q + itemSize (shape w) c) n
+
+-- the class that the first header of a page at p says; and whether all its items are right for it
+abbrev pub classAt : ℕ → List ℕ → ℕ → ℕ
+classAt w b p = classIn (shape w) (wordAt w b (firstItemAt (shape w) p))
+
+abbrev pub PageRight : ℕ → List ℕ → ℕ → Type 0
+PageRight w b p = AllRight w b (classAt w b p) (firstItemAt (shape w) p) (shape w .perPage (classAt w b p))
 
 -- what the tag of a block in use says that it is
 unfoldable pub useKind : Use → ℕ

@@ -9,8 +9,8 @@ use Rattle.model.proofs.Sizes.{page-eight, words-fit}
 pub record Good (S : Shape) : Type 0 where
   -- a word has bytes
   pub word : 0 < S .word
-  -- a header that names a place in the longest heap fits a word
-  pub fits : (n : ℕ) → n ≤ S .most → 16 * n + 4 * S .classes + 64 * S .word + 64 < 256 ^ S .word
+  -- a header that names a place in the longest heap fits a word, and so does one with a size of any class
+  pub fits : (n : ℕ) → n ≤ S .most → 16 * n + 1028 * S .classes + 64 * S .word + 64 < 256 ^ S .word
   -- two tags, and a page, take multiples of 8 bytes
   pub tags : tags S % 8 ≡ 0
   pub pages : (c : ℕ) → pageNeed S c % 8 ≡ 0

@@ -6,7 +6,7 @@ use native.Mathlib.Omega.{arith}
 use Rattle.words.specs.Width.{Width}
 use Rattle.words.proofs.WidthLaws.{widths}
 use Rattle.model.specs.Shape.{shape, up8, start, index, leastVariable, needOf, itemSize, pageNeed}
-use Rattle.model.specs.Parts.{freeHeader, nextIn}
+use Rattle.model.specs.Parts.{freeHeader, heldHeader, nextIn}
 
 -- a size above a multiple of 8 is rounded up to the next at least
 pub up-above : (k n : ℕ) → 8 * k < n → 8 * k + 8 ≤ up8 n
@@ -73,15 +73,15 @@ module _ {w : ℕ} (k : Width w) (c n : ℕ) (few : c < 4 * w) where
   pub next-idle : n % w ≡ 0 → nextIn (shape w) (freeHeader c n) ≡ n
   next-idle = widths (λ w. c < 4 * w → n % w ≡ 0 → nextIn (shape w) (freeHeader c n) ≡ n) (omega arith) (omega arith) w k few
 
-  pub class-held : (4 * c + 3) % (16 * w) / 4 ≡ c
-  class-held = widths (λ w. c < 4 * w → (4 * c + 3) % (16 * w) / 4 ≡ c) (omega arith) (omega arith) w k few
+  pub class-held : heldHeader c n % (16 * w) / 4 ≡ c
+  class-held = widths (λ w. c < 4 * w → heldHeader c n % (16 * w) / 4 ≡ c) (omega arith) (omega arith) w k few
 
 pub zero-even : {w : ℕ} → Width w → (n : ℕ) → n ≡ 0 → n % w ≡ 0
 zero-even {w} k n = widths (λ w. n ≡ 0 → n % w ≡ 0) (omega arith) (omega arith) w k
 
--- a header that names a place in the longest heap fits a word
-pub words-fit : {w : ℕ} → Width w → (n : ℕ) → n ≤ shape w .most → 16 * n + 4 * (4 * w) + 64 * w + 64 < 256 ^ w
-words-fit {w} k n = widths (λ w. n ≤ shape w .most → 16 * n + 4 * (4 * w) + 64 * w + 64 < 256 ^ w) (omega arith) (omega arith) w k
+-- a header that names a place in the longest heap fits a word, and so does one with a size of any class
+pub words-fit : {w : ℕ} → Width w → (n : ℕ) → n ≤ shape w .most → 16 * n + 1028 * (4 * w) + 64 * w + 64 < 256 ^ w
+words-fit {w} k n = widths (λ w. n ≤ shape w .most → 16 * n + 1028 * (4 * w) + 64 * w + 64 < 256 ^ w) (omega arith) (omega arith) w k
 
 -- the magic number is a word of eight bytes
 pub magic-fits : {w : ℕ} → Width w → shape w .magic < 256 ^ 8

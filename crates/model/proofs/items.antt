@@ -1,3 +1,4 @@
+pub mod Asked
 pub mod Items
 pub mod ItemLaws
 pub mod ItemValid

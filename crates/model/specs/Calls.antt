@@ -13,7 +13,7 @@ use Rattle.model.specs.Shape.{Shape, shortest, endOf}
 use Rattle.model.specs.Parts.{magicBytes}
 use Rattle.model.specs.Layout.{Layout, words}
 use Rattle.model.specs.Sound.{Here, Sound}
-use Rattle.model.specs.Rules.{Made, Found, block, thing, nothing, allocate, find, freed, capacity, stays, fresh}
+use Rattle.model.specs.Rules.{Made, Found, block, thing, nothing, allocate, find, freed, capacity, shownOf, stays, fresh}
 use Rattle.model.specs.Reading.{Step, ended, step, Statistics, counted, table, lookedUp}
 use Rattle.model.specs.Refusals.{badLength, notOpened, notSound, badSize, notLive, noRoom, alreadyOpened}
 
@@ -78,7 +78,7 @@ module _ (S : Shape) where
   abbrev pub found : {A : Type 0} → Found → A → A → A
   found nothing else next = else
   found (block t) else next = next
-  found (thing o c) else next = next
+  found (thing o c n) else next = next
 
   abbrev pub made : List ℕ → Option Made → (Made → List ℕ) → Outcome
   made b none heap = refused b noRoom
@@ -116,9 +116,9 @@ module _ (S : Shape) where
   abbrev pub stayed : List ℕ → ℕ → ℕ → Layout → Outcome
   stayed b a n L = placed b a (stays S n (find S a L) L)
 
-  -- elsewhere: allocate, copy the smaller of old capacity and n, free the old
+  -- elsewhere: allocate, copy the smaller of what the old one shows and n, free the old
   abbrev pub movedBytes : List ℕ → ℕ → ℕ → Layout → Made → List ℕ
-  movedBytes b a n L m = drawn (without a (m .layout)) (copied a (m .at) (min (capacity S (find S a L)) n) (drawn (m .layout) b))
+  movedBytes b a n L m = drawn (without a (m .layout)) (copied a (m .at) (min (shownOf S (find S a L)) n) (drawn (m .layout) b))
 
   abbrev pub moved : List ℕ → ℕ → ℕ → Layout → Outcome
   moved b a n L = made b (allocate S n L) (movedBytes b a n L)

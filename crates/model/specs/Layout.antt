@@ -9,10 +9,10 @@ use Rattle.model.specs.Picture.{Word}
 use Rattle.model.specs.Shape.{Shape, start, index, tags, itemSize, offsetOf}
 use Rattle.model.specs.Parts.{variableKind, pageKind, tagOf, freeHeader, heldHeader, dataAt, indexAt, firstFreeAt, endAt, indexTag, indexTagAt, indexFarTagAt, farTagAt, nextAt, previousAt, firstItemAt}
 
--- an item of a page: free, or in use
+-- an item of a page: free, or in use, with the size that was asked for, 0 where that is not known
 pub data Slot : Type 0 where
   idle : Slot
-  held : Slot
+  held : ℕ → Slot
 
 -- a block in use: a variable block, with its whole size; or a page, with its class, the unused bytes after its items, and its items
 pub data Use : Type 0 where
@@ -68,7 +68,7 @@ module _ (S : Shape) where
   -- the header of the item at p, of class c, whose free items are listed in l
   unfoldable pub header : ℕ → List ℕ → ℕ → Slot → ℕ
   header c l p idle = freeHeader c (nextOf (offsetOf S p) l)
-  header c l p held = heldHeader c
+  header c l p (held n) = heldHeader c n
 
   -- the headers of a page's items from position p on
   unfoldable pub slotWords : ℕ → List ℕ → ℕ → List Slot → List Word

@@ -33,16 +33,23 @@ freeFlags = 1
 abbrev pub heldFlags : ℕ
 heldFlags = 3
 
--- an item's header is 16 times the offset of the next free item, 4 times its class, and its flags: of a free item of class c, and of one in use
+-- an item's header is 4 times its class, its flags, and above them: of a free item 16 times the offset of the next one; of one in use 128 times the size n that was asked for, 0 where that is not known
 abbrev pub freeHeader : ℕ → ℕ → ℕ
 freeHeader c next = 16 * next + 4 * c + freeFlags
 
-abbrev pub heldHeader : ℕ → ℕ
-heldHeader c = 4 * c + heldFlags
+abbrev pub heldHeader : ℕ → ℕ → ℕ
+heldHeader c n = 128 * n + 4 * c + heldFlags
 
 -- class and flags of a free item's header, whatever its next
 abbrev pub freeMark : ℕ → ℕ
 freeMark c = 4 * c + freeFlags
+
+-- what any header says: its flags; and what one of an item in use says: the size that was asked for
+abbrev pub flagsIn : ℕ → ℕ
+flagsIn x = x % 4
+
+abbrev pub askedIn : ℕ → ℕ
+askedIn x = x / 128
 
 module _ (S : Shape) where
   -- what a header says: its class and its flags in one, its class, and the offset of the next free item, a multiple of a word

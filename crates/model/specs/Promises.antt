@@ -103,13 +103,13 @@ module _ (S : Shape) where
       (end : ℕ) (L : Layout) → Valid S end L → (x : Payload) → x ∈ live S L → (v : Word) → v ∈ words S end L
       → x .address < v .at + S .word → v .at < x .address + x .size → ⊥
 
-  -- what is found at an address is what is live there, so that 5 is answered exactly where nothing is; and a look-up gives its content
+  -- what is found at an address is what is live there, so that 5 is answered exactly where nothing is; and a look-up gives what it shows of its content
   abbrev pub FoundIsLive : Type 0
   FoundIsLive =
       (end : ℕ) (L : Layout) (a : ℕ) → Valid S end L → (find S a L ≡ nothing → ⊥) ↔ ((x : Payload) × (x ∈ live S L) × (x .address ≡ a))
 
   abbrev pub LookUpShows : Type 0
-  LookUpShows = (end : ℕ) (b : List ℕ) (L : Layout) → Valid S end L → (x : Payload) → x ∈ live S L → lookedUp S b (x .address) L ≡ content b x
+  LookUpShows = (end : ℕ) (b : List ℕ) (L : Layout) → Valid S end L → (x : Payload) → x ∈ live S L → lookedUp S b (x .address) L ≡ take (x .shown) (content b x)
 
   -- a payload is live in a heap after a call as before it, with the same bytes; nothing is live but what was, and what stands at a
   abbrev pub Kept : List ℕ → List ℕ → Layout → Payload → Type 0
@@ -145,18 +145,35 @@ module _ (S : Shape) where
   abbrev pub FreeKeeps : Type 0
   FreeKeeps = (b : List ℕ) (a : ℕ) (r : Outcome) (L L′ : Layout) → Grants b (freeing a) r L L′ → FreeKept b a L r L′
 
-  -- resize alters no payload but its own, makes nothing else live, grants what holds n bytes, and keeps the common beginning; where the record moved, its old address is dead
+  -- resize alters no payload but its own, makes nothing else live, grants what holds n bytes, and keeps the common beginning, which ends at the smaller of what was shown and n; where the record moved, its old address is dead
   abbrev pub ResizeKept : List ℕ → ℕ → ℕ → Layout → Outcome → Layout → Type 0
   ResizeKept b a n L r L′ =
       ((x : Payload) → x ∈ live S L → (x .address ≡ a → ⊥) → Kept b (r .heap) L′ x)
       × OnlyNew L L′ (r .address)
       × ((x : Payload) → x ∈ live S L → x .address ≡ a
       → ((y : Payload) × (y ∈ live S L′) × (y .address ≡ r .address) × (n ≤ y .size)
-      × (take (min (x .size) n) (content (r .heap) y) ≡ take (min (x .size) n) (content b x))))
+      × (take (min (x .shown) n) (content (r .heap) y) ≡ take (min (x .shown) n) (content b x))))
       × ((r .address ≡ a → ⊥) → (x : Payload) → x ∈ live S L′ → x .address ≡ a → ⊥)
 
   abbrev pub ResizeKeeps : (ℕ → ℕ → Call) → Type 0
   ResizeKeeps form = (b : List ℕ) (a n : ℕ) (r : Outcome) (L L′ : Layout) → Grants b (form a n) r L L′ → ResizeKept b a n L r L′
+
+  -- an item that is granted for n bytes shows n bytes: by allocate, in place and by a move; by resize, unless the record was kept and no byte changed
+  abbrev pub ShownAt : Layout → ℕ → ℕ → Type 0
+  ShownAt L a n = (x : Payload) × (x ∈ live S L) × (x .address ≡ a) × (x .shown ≡ n)
+
+  abbrev pub GrantShows : Call → ℕ → Type 0
+  GrantShows q n = (b : List ℕ) (r : Outcome) (L L′ : Layout) → Grants b q r L L′ → n ≤ largestItem S → ShownAt L′ (r .address) n
+
+  abbrev pub AskedShown : Type 0
+  AskedShown =
+      (a n : ℕ)
+      → GrantShows (allocating n) n × GrantShows (resizingBy staying a n) n × GrantShows (resizingBy moving a n) n
+      × ((b : List ℕ) (r : Outcome) (L L′ : Layout) → Grants b (resizing a n) r L L′ → n ≤ largestItem S → ShownAt L′ (r .address) n ⊎ (r ≡ granted a b))
+
+  -- no more is shown of a payload than it holds
+  abbrev pub ShownWithin : Type 0
+  ShownWithin = (end : ℕ) (L : Layout) → Valid S end L → (x : Payload) → x ∈ live S L → x .shown ≤ x .size
 
   -- in place gives the record's own address, a move never does
   abbrev pub InPlaceStays : Type 0
@@ -253,10 +270,12 @@ module _ (S : Shape) where
     pub no-word-inside : NoWordInside
     pub found-is-live : FoundIsLive
     pub look-up-shows : LookUpShows
+    pub shown-within : ShownWithin
     pub allocate-keeps : AllocateKeeps
     pub free-keeps : FreeKeeps
     pub resize-keeps : ResizeKeeps resizing
     pub each-way-keeps : (v : Way) → ResizeKeeps (resizingBy v)
+    pub asked-shown : AskedShown
     pub in-place-stays : InPlaceStays
     pub move-moves : MoveMoves
     pub split-gives : SplitGives

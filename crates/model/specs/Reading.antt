@@ -6,7 +6,7 @@ use lib.ListN.{length, take, drop}
 use lib.Dec.{eqb}
 use Rattle.model.specs.Shape.{Shape, start}
 use Rattle.model.specs.Layout.{Slot, idle, held, variable, page, Block, free, used, Layout, ifFree, sizeOf, firstFree}
-use Rattle.model.specs.Rules.{capacity, find}
+use Rattle.model.specs.Rules.{shownOf, find}
 
 -- what a block is: free, with its next and its previous free block; variable; a page, with its class; or there is none
 pub data Kind : Type 0 where
@@ -35,7 +35,7 @@ greatest f (b ∷ bs) = max (f b) (greatest f bs)
 unfoldable pub heldIn : List Slot → ℕ
 heldIn [] = 0
 heldIn (idle ∷ ss) = heldIn ss
-heldIn (held ∷ ss) = suc (heldIn ss)
+heldIn (held n ∷ ss) = suc (heldIn ss)
 
 -- a number of a block: f of a free one's size, v of a variable one, g of a page's class and items
 unfoldable pub ofBlock : (ℕ → ℕ) → ℕ → (ℕ → List Slot → ℕ) → Block → ℕ
@@ -85,9 +85,9 @@ module _ (S : Shape) where
   abbrev pub table : List Block → List (List ℕ)
   table bs = rowsFrom (S .classes) 0 bs
 
-  -- Look-up: the whole capacity at a live address
+  -- Look-up: of an item at a live address as many bytes as were asked for, of a block its whole capacity
   abbrev pub lookedUp : List ℕ → ℕ → Layout → List ℕ
-  lookedUp b a L = take (capacity S (find S a L)) (drop a b)
+  lookedUp b a L = take (shownOf S (find S a L)) (drop a b)
 
   -- Walk: what the block at p is, with the blocks after it and the free block before it at prev
   unfoldable pub kindOf : ℕ → ℕ → Block → List Block → Kind

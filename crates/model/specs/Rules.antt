@@ -5,7 +5,7 @@ use mathlib.Core.List.{List, [], _∷_, _++_}
 use mathlib.Core.Option.{Option, none, some}
 use lib.ListN.{getD, set, replicate}
 use lib.Dec.{eqb, leb}
-use Rattle.model.specs.Shape.{Shape, start, leastFree, largestItem, itemSize, itemCapacity, blockCapacity, classOf, needOf, pageNeed, addressOf, offsetOf, itemAt}
+use Rattle.model.specs.Shape.{Shape, start, leastFree, largestItem, itemSize, itemCapacity, itemShown, blockCapacity, classOf, needOf, pageNeed, addressOf, offsetOf, itemAt}
 use Rattle.model.specs.Parts.{firstItemAt}
 use Rattle.model.specs.Layout.{Slot, idle, held, Use, variable, page, Block, free, used, Layout, useSize, ends}
 use Rattle.model.specs.Sound.{idleSlots}
@@ -43,20 +43,20 @@ inFront (b ∷ pre) bs = before b (inFront pre bs)
 abbrev pub released : Spot → List Block
 released t = inFront (t .pre) (before (free (t .size)) (t .post))
 
--- what stands at an address: a variable block, or an item in use, with its offset and its class
+-- what stands at an address: a variable block; or an item in use, with its offset, its class and the size that was asked for
 pub data Found : Type 0 where
   block : Spot → Found
-  thing : ℕ → ℕ → Found
+  thing : ℕ → ℕ → ℕ → Found
   nothing : Found
 
 abbrev pub behind : Block → Found → Found
 behind b (block t) = block (record { pre = b ∷ t .pre; size = t .size; post = t .post })
-behind b (thing o c) = thing o c
+behind b (thing o c n) = thing o c n
 behind b nothing = nothing
 
 abbrev pub orElse : Found → Found → Found
 orElse (block t) g = block t
-orElse (thing o c) g = thing o c
+orElse (thing o c n) g = thing o c n
 orElse nothing g = g
 
 -- an address, and the layout that a rule leaves
@@ -97,9 +97,9 @@ module _ (S : Shape) where
   itemTo s q p (free t ∷ bs) = free t ∷ itemTo s q (p + t) bs
   itemTo s q p (used u ∷ bs) = used (useTo s q p u) ∷ itemTo s q (p + useSize S u) bs
 
-  -- the first item on the list of class c is taken, and the rest of the list stays; an item goes to the head of its list
-  abbrev pub popped : ℕ → ℕ → List ℕ → Layout → Layout
-  popped c o os L = record { blocks = itemTo held (itemAt S o) (start S) (L .blocks); lists = set (L .lists) c os }
+  -- the first item on the list of class c is taken for n bytes, and the rest of the list stays; an item goes to the head of its list
+  abbrev pub popped : ℕ → ℕ → ℕ → List ℕ → Layout → Layout
+  popped n c o os L = record { blocks = itemTo (held n) (itemAt S o) (start S) (L .blocks); lists = set (L .lists) c os }
 
   abbrev pub pushed : ℕ → ℕ → Layout → Layout
   pushed c o L = record { blocks = itemTo idle (itemAt S o) (start S) (L .blocks); lists = set (L .lists) c (o ∷ getD (L .lists) c []) }
@@ -108,20 +108,20 @@ module _ (S : Shape) where
   abbrev pub paged : ℕ → Spot → Layout → Layout
   paged c t L = record { blocks = placed (pageNeed S c) (asPage c) t; lists = set (L .lists) c (idleSlots S c (firstItemAt S (spotAt t)) (replicate (S .perPage c) idle)) }
 
-  -- an item of class c from its list
-  unfoldable pub fromList : ℕ → Layout → List ℕ → Option Made
-  fromList c L [] = none
-  fromList c L (o ∷ os) = some (record { at = addressOf S (itemAt S o); layout = popped c o os L })
+  -- an item of class c from its list, for n bytes
+  unfoldable pub fromList : ℕ → ℕ → Layout → List ℕ → Option Made
+  fromList n c L [] = none
+  fromList n c L (o ∷ os) = some (record { at = addressOf S (itemAt S o); layout = popped n c o os L })
 
   -- an item of a new page of class c
-  unfoldable pub fromPage : ℕ → Layout → Option Spot → Option Made
-  fromPage c L none = none
-  fromPage c L (some t) = fromList c (paged c t L) (getD (paged c t L .lists) c [])
+  unfoldable pub fromPage : ℕ → ℕ → Layout → Option Spot → Option Made
+  fromPage n c L none = none
+  fromPage n c L (some t) = fromList n c (paged c t L) (getD (paged c t L .lists) c [])
 
   -- a page is made only on an empty list
-  unfoldable pub anItem : ℕ → Layout → List ℕ → Option Made
-  anItem c L [] = fromPage c L (fit (pageNeed S c) (L .blocks))
-  anItem c L (o ∷ os) = fromList c L (o ∷ os)
+  unfoldable pub anItem : ℕ → ℕ → Layout → List ℕ → Option Made
+  anItem n c L [] = fromPage n c L (fit (pageNeed S c) (L .blocks))
+  anItem n c L (o ∷ os) = fromList n c L (o ∷ os)
 
   -- a variable block
   unfoldable pub aBlock : ℕ → Layout → Option Spot → Option Made
@@ -131,7 +131,7 @@ module _ (S : Shape) where
   -- Allocate n
   unfoldable pub allocate : ℕ → Layout → Option Made
   allocate n L =
-      let small = anItem (classOf n) L (getD (L .lists) (classOf n) []) in
+      let small = anItem n (classOf n) L (getD (L .lists) (classOf n) []) in
       let large = aBlock (needOf S n) L (fit (needOf S n) (L .blocks)) in
       cond (leb n (largestItem S)) small large
 
@@ -139,9 +139,9 @@ module _ (S : Shape) where
   unfoldable pub inSlots : ℕ → ℕ → ℕ → List Slot → Found
   inSlots a c p [] = nothing
   inSlots a c p (idle ∷ ss) = inSlots a c (p + itemSize S c) ss
-  inSlots a c p (held ∷ ss) =
+  inSlots a c p (held n ∷ ss) =
       let later = inSlots a c (p + itemSize S c) ss in
-      cond (eqb a (addressOf S p)) (thing (offsetOf S p) c) later
+      cond (eqb a (addressOf S p)) (thing (offsetOf S p) c n) later
 
   unfoldable pub findFrom : ℕ → ℕ → List Block → Found
   findFrom a p [] = nothing
@@ -158,14 +158,20 @@ module _ (S : Shape) where
   -- Free what stands at an address
   unfoldable pub freed : Found → Layout → Layout
   freed (block t) L = record { blocks = released t; lists = L .lists }
-  freed (thing o c) L = pushed c o L
+  freed (thing o c n) L = pushed c o L
   freed nothing L = L
 
   -- how many bytes it holds
   abbrev pub capacity : Found → ℕ
   capacity (block t) = blockCapacity S (t .size)
-  capacity (thing o c) = itemCapacity S c
+  capacity (thing o c n) = itemCapacity S c
   capacity nothing = 0
+
+  -- how many of them a look-up shows and a move copies: of an item as many as were asked for, of a block all
+  abbrev pub shownOf : Found → ℕ
+  shownOf (block t) = blockCapacity S (t .size)
+  shownOf (thing o c n) = itemShown S c n
+  shownOf nothing = 0
 
   -- Resize in place: a block that is large enough stays, its tail freed if a free block fits there; a smaller one grows over a free right neighbour if the two reach need
   unfoldable pub shrunk : ℕ → ℕ → List Block → List Block
@@ -180,10 +186,14 @@ module _ (S : Shape) where
   reshaped need t L none = none
   reshaped need t L (some bs) = some (record { blocks = t .pre ++ bs; lists = L .lists })
 
+  -- an item in use is now for n bytes
+  abbrev pub renewed : ℕ → ℕ → Layout → Layout
+  renewed n o L = record { blocks = itemTo (held n) (itemAt S o) (start S) (L .blocks); lists = L .lists }
+
   -- the layout where the record stays, or none where it moves
   unfoldable pub stays : ℕ → Found → Layout → Option Layout
   stays n nothing L = none
-  stays n (thing o c) L = cond (leb n (largestItem S) && eqb (classOf n) c) (some L) none
+  stays n (thing o c k) L = cond (leb n (largestItem S) && eqb (classOf n) c) (some (renewed n o L)) none
   stays n (block t) L =
       let need = needOf S n in
       let here = cond (leb need (t .size)) (some (shrunk need (t .size) (t .post))) (grown need (t .size) (t .post)) in

@@ -83,6 +83,10 @@ module _ (S : Shape) where
   abbrev pub itemCapacity : ℕ → ℕ
   itemCapacity c = 8 * c + 8
 
+  -- how many of its bytes are shown where n were asked for: all where n is 0, not known
+  abbrev pub itemShown : ℕ → ℕ → ℕ
+  itemShown c n = cond (eqb n 0) (itemCapacity c) n
+
   -- what a variable block of size s holds
   abbrev pub blockCapacity : ℕ → ℕ
   blockCapacity s = s - tags

@@ -2,12 +2,13 @@
 use Prim.Native.Nat.{ℕ, _+_, _%_, _≤_, _<_}
 use mathlib.Core.Bool.{cond}
 use mathlib.Core.Path.{_≡_}
+use mathlib.Core.Logic.{_⊎_}
 use mathlib.Core.List.{List, [], _∷_, _++_}
 use lib.ListN.{length, getD}
 use lib.Dec.{eqb}
 use Rattle.words.specs.Word.{wordAt}
 use Rattle.model.specs.Picture.{Shows}
-use Rattle.model.specs.Shape.{Shape, start, leastFree, leastVariable, itemSize, offsetOf, endOf}
+use Rattle.model.specs.Shape.{Shape, start, leastFree, leastVariable, classOf, itemSize, offsetOf, endOf}
 use Rattle.model.specs.Parts.{magicBytes, firstItemAt}
 use Rattle.model.specs.Layout.{Slot, idle, held, Use, variable, page, Block, free, used, Layout, ifFree, sizeOf, ends, words}
 
@@ -21,11 +22,20 @@ unfoldable pub Apart : ℕ → List Block → Type 0
 Apart d [] = Unit {0}
 Apart d (b ∷ bs) = (d + ifFree b 1 0 ≤ 1) × Apart (ifFree b 1 0) bs
 
+-- of an item of class c: the size that was asked for is not known, or is one of that class; and so of all of a page's items
+unfoldable pub Within : ℕ → Slot → Type 0
+Within c idle = Unit {0}
+Within c (held n) = (n ≡ 0) ⊎ (classOf n ≡ c)
+
+unfoldable pub AllWithin : ℕ → List Slot → Type 0
+AllWithin c [] = Unit {0}
+AllWithin c (s ∷ ss) = Within c s × AllWithin c ss
+
 module _ (S : Shape) where
   -- sizes and kinds are as allowed
   unfoldable pub AllowedUse : Use → Type 0
   AllowedUse (variable s) = (leastVariable S ≤ s) × (s % 8 ≡ 0)
-  AllowedUse (page c spare slots) = (c < S .classes) × (length slots ≡ S .perPage c) × (spare < leastFree S) × (spare % 8 ≡ 0)
+  AllowedUse (page c spare slots) = (c < S .classes) × (length slots ≡ S .perPage c) × (spare < leastFree S) × (spare % 8 ≡ 0) × AllWithin c slots
 
   unfoldable pub Allowed : Block → Type 0
   Allowed (free s) = (leastFree S ≤ s) × (s % 8 ≡ 0)
@@ -39,7 +49,7 @@ module _ (S : Shape) where
   unfoldable pub idleSlots : ℕ → ℕ → List Slot → List ℕ
   idleSlots c p [] = []
   idleSlots c p (idle ∷ ss) = offsetOf S p ∷ idleSlots c (p + itemSize S c) ss
-  idleSlots c p (held ∷ ss) = idleSlots c (p + itemSize S c) ss
+  idleSlots c p (held n ∷ ss) = idleSlots c (p + itemSize S c) ss
 
   -- the offsets of the free items of class c in a block at p, and in blocks from p on
   unfoldable pub idleIn : ℕ → ℕ → Block → List ℕ

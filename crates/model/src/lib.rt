@@ -1,10 +1,12 @@
 // A heap of words of w bytes in code, document 01's at 8 and the hand unit's at 4: the three ways of counting a place, and each part of a heap by name.
 // What follows from w is folded away where a program gives it as a constant.
 ghost use mathlib.Core.Path.{_≡_};
+ghost use mathlib.Core.Bool.{true};
 ghost use Prim.Native.Nat.{_+_, _*_, _≤_, _<_, _^_};
 ghost use Rattle.words.specs.Width.{Width};
-ghost use Rattle.model.specs.Shape.{shape, endOf, classOf, needOf, index, start, tags, leastFree, shortest, leastVariable, largestItem, itemSize, itemCapacity, blockCapacity, pageNeed, addressOf, positionOf, offsetOf, itemAt};
-ghost use Rattle.model.specs.Parts.{tagOf, sizeIn, kindIn, freeHeader, heldHeader, freeMark, classAndFlags, classIn, nextIn, dataAt, indexAt, firstFreeAt, endAt, indexTag, indexTagAt, indexFarTagAt, headAt, farTagAt, nextAt, previousAt, firstItemAt};
+ghost use Rattle.model.specs.Shape.{shape, endOf, classOf, needOf, index, start, tags, leastFree, shortest, leastVariable, largestItem, itemSize, itemCapacity, itemShown, blockCapacity, pageNeed, addressOf, positionOf, offsetOf, itemAt};
+ghost use Rattle.model.specs.inner.Headers.{leastHeader, SameClass};
+ghost use Rattle.model.specs.Parts.{tagOf, sizeIn, kindIn, freeHeader, heldHeader, flagsIn, askedIn, freeMark, classAndFlags, classIn, nextIn, dataAt, indexAt, firstFreeAt, endAt, indexTag, indexTagAt, indexFarTagAt, headAt, farTagAt, nextAt, previousAt, firstItemAt};
 
 // A place counted in bytes from the start of the buffer.
 pub struct Position(pub usize);
@@ -19,6 +21,11 @@ pub const FREE: usize = 0;
 pub const VARIABLE: usize = 2;
 
 pub const PAGE: usize = 3;
+
+// What an item is, as the flags of its header say: free, or in use.
+pub const IDLE: usize = 1;
+
+pub const HELD: usize = 3;
 
 // The address of the payload behind the tag or header at p.
 pub fn address_of(w: usize, p: Position) -> Address
@@ -281,7 +288,7 @@ pub fn class_of(n: usize) -> usize
     (n - 1) / 8
 }
 
-// What an item of class c takes, with its header; what it holds.
+// What an item of class c takes, with its header; what it holds; how much of that is shown where n bytes were asked for.
 pub fn item_size(w: usize, c: usize) -> usize
     requires { ⌜ Width w × (c < shape w .classes) ⌝ }
     ensures { λ r. ⌜ r ≡ itemSize (shape w) c ⌝ }
@@ -294,6 +301,13 @@ pub fn item_capacity(w: usize, c: usize) -> usize
     ensures { λ r. ⌜ r ≡ itemCapacity (shape w) c ⌝ }
 {
     8 * c + 8
+}
+
+pub fn item_shown(w: usize, c: usize, n: usize) -> usize
+    requires { ⌜ Width w × (c < shape w .classes) ⌝ }
+    ensures { λ r. ⌜ r ≡ itemShown (shape w) c n ⌝ }
+{
+    if n == 0 { item_capacity(w, c) } else { n }
 }
 
 // The page sizes of document 01's heap, printed for whoever reads the listing: how many items a page has, its class, and what an item takes with its header.
@@ -348,7 +362,7 @@ pub fn page_need(w: usize, c: usize, n: usize) -> usize
     2 * w + n * item_size(w, c)
 }
 
-// The header of a free item of class c with the item at `next` after it on its list; its class and flags alone; and the header of an item in use.
+// The header of a free item of class c with the item at `next` after it on its list; its class and flags alone; and the header of an item in use for n bytes.
 pub fn free_header(c: usize, next: ItemOffset) -> usize
     requires { ⌜ freeHeader c (next .0) < 2 ^ 64 ⌝ }
     ensures { λ r. ⌜ r ≡ freeHeader c (next .0) ⌝ }
@@ -363,11 +377,25 @@ pub fn free_mark(c: usize) -> usize
     4 * c + 1
 }
 
-pub fn held_header(c: usize) -> usize
-    requires { ⌜ c < 2 ^ 32 ⌝ }
-    ensures { λ r. ⌜ r ≡ heldHeader c ⌝ }
+pub fn held_header(c: usize, n: usize) -> usize
+    requires { ⌜ (c < 2 ^ 32) × (n < 2 ^ 32) ⌝ }
+    ensures { λ r. ⌜ r ≡ heldHeader c n ⌝ }
 {
-    4 * c + 3
+    128 * n + 4 * c + 3
+}
+
+// The header of an item in use for the least size of class c; and whether a header that is d above it is of a size of the same class. The differences of many headers may be or-ed first.
+pub fn least_header(c: usize) -> usize
+    requires { ⌜ c < 2 ^ 16 ⌝ }
+    ensures { λ r. ⌜ r ≡ leastHeader c ⌝ }
+{
+    held_header(c, 8 * c + 1)
+}
+
+pub fn same_class(d: usize) -> bool
+    ensures { λ r. ⌜ (r ≡ true → SameClass d) × (SameClass d → r ≡ true) ⌝ }
+{
+    d % 128 + d / 1024 == 0
 }
 
 // What the header x of an item says: its class and its flags in one, its class, and the item after it on its list.
@@ -390,4 +418,17 @@ pub fn next_in(w: usize, x: usize) -> ItemOffset
     ensures { λ r. ⌜ r .0 ≡ nextIn (shape w) x ⌝ }
 {
     ItemOffset(x / (16 * w) * w)
+}
+
+// Its flags; and where they say that it is in use, the size that was asked for.
+pub fn flags_in(x: usize) -> usize
+    ensures { λ r. ⌜ r ≡ flagsIn x ⌝ }
+{
+    x % 4
+}
+
+pub fn asked_in(x: usize) -> usize
+    ensures { λ r. ⌜ r ≡ askedIn x ⌝ }
+{
+    x / 128
 }

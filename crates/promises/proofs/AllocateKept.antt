@@ -50,7 +50,7 @@ module _ {w : ℕ} (wd : Width w) where
   unfolding Comes
   allocate-keeps b n r L M g =
       let a = made-of b n L r (g .comes .sound (g .lent) L (g .here)) (g .granted) in
-      let k = allocate-grants (shape w) (endOf (length b)) n (shape-good wd) L (a .made) (g .here .valid) (a .some-byte) (a .found) in
+      let k = allocate-grants (shape w) (endOf (length b)) n (shape-good wd) (a .some-byte) L (a .made) (g .here .valid) (a .found) in
       let h : Here (shape w) (r .heap) (a .made .layout) = subst (λ (o : Outcome). Here (shape w) (o .heap) (a .made .layout)) (sym (a .is)) (draws wd b L (g .lent) (g .here) (a .made .layout) (k .valid)) in
       subst (λ (N : Layout). AllocateKept (shape w) b n L r N) (one-layout wd (r .heap) (a .made .layout) M h (g .then))
       (subst (λ (o : Outcome). AllocateKept (shape w) b n L o (a .made .layout)) (sym (a .is)) (granted-kept b n L (a .made) k))

@@ -70,7 +70,7 @@ module _ {w : ℕ} (wd : Width w) where
         go none e = rw e (sized-does n (refused b noRoom) (refuse noRoom L) (λ i. left noRoom 0))
         go (some m) e =
             rw e (sized-does n (granted (m .at) (drawn (shape w) (m .layout) b)) (grant (m .at) (m .layout))
-            (λ i. drew (m .at) (m .layout) (allocate-grants (shape w) (endOf (length b)) n (shape-good wd) L m (h .valid) i e .valid)))
+            (λ i. drew (m .at) (m .layout) (allocate-grants (shape w) (endOf (length b)) n (shape-good wd) i L m (h .valid) e .valid)))
 
     freed-valid : (a : ℕ) (f : Found) → find (shape w) a L ≡ f → isThere f ≡ 1 → Valid (shape w) (endOf (length b)) (freed (shape w) f L)
     freed-valid a f e i = freed-removes (shape w) (shape-good wd) (h .valid) a f e (λ n. omega (arith, i, ap isThere n)) .valid
@@ -82,7 +82,7 @@ module _ {w : ℕ} (wd : Width w) where
         go : (f : Found) → find (shape w) a L ≡ f → Does b L (found (shape w) (find (shape w) a L) (refused b notLive) (granted 0 (drawn (shape w) (without (shape w) a L) b))) (doing (shape w) (freeing a) L)
         go nothing e = rw e (left _ _)
         go (block t) e = rw e (drew _ (freed (shape w) (block t) L) (freed-valid a (block t) e refl))
-        go (thing o c) e = rw e (drew _ (freed (shape w) (thing o c) L) (freed-valid a (thing o c) e refl))
+        go (thing o c k) e = rw e (drew _ (freed (shape w) (thing o c k) L) (freed-valid a (thing o c k) e refl))
 
     pub does-same : (r o : Outcome) (d : Done) → r ≡ o → Does b L o d → Does b L r d
     does-same r o d e x = subst (λ (y : Outcome). Does b L y d) (sym e) x

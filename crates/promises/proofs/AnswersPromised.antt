@@ -30,6 +30,7 @@ use Rattle.heap.specs.Counting.{toldCounted, TableTold}
 use Rattle.promises.specs.Answered.{AnswersPromised}
 use Rattle.promises.proofs.Stable.{numbers}
 use Rattle.promises.proofs.Cases.{checked-cases}
+use Rattle.promises.proofs.LookedUp.{looked-up}
 use Rattle.promises.proofs.Promised.{wide-promised}
 use Rattle.promises.proofs.OneResult.{refusal-some, refusal-one, outcome-one}
 
@@ -52,7 +53,7 @@ free-answers b a o L e = go (find wide a L) refl
     go : (f : Found) → find wide a L ≡ f → (o .refusal ≡ notLive) ↔ (find wide a L ≡ nothing)
     go nothing k = ((λ x. k), (λ x. said nothing k))
     go (block t) k = ((λ x. absurd (omega (arith, x, said (block t) k))), (λ x. said nothing x))
-    go (thing i c) k = ((λ x. absurd (omega (arith, x, said (thing i c) k))), (λ x. said nothing x))
+    go (thing i c j) k = ((λ x. absurd (omega (arith, x, said (thing i c j) k))), (λ x. said nothing x))
 
 -- the table's columns and the statistics, where both tell the same blocks
 told-columns : (r : Counted) (t u : List (List ℕ)) (k : ℕ) (s : reading.Statistics) → toldCounted r ≡ record { refusal = k; answer = s } → t ≡ u
@@ -92,6 +93,7 @@ answers-promised =
       free-keeps = λ b a y c L L′ l h x k. wide-promised .free-keeps b a (granted (y .0) c) L L′ (record { lent = l; here = h; comes = x; granted = refl; then = k });
       resize-keeps = λ b a n y c L L′ l h x k. wide-promised .resize-keeps b a n (granted (y .0) c) L L′ (record { lent = l; here = h; comes = x; granted = refl; then = k });
       each-way-keeps = λ v b a n y c L L′ l h x k. wide-promised .each-way-keeps v b a n (granted (y .0) c) L L′ (record { lent = l; here = h; comes = x; granted = refl; then = k });
+      looked-up = looked-up;
       in-place-stays = λ b a n y c x. wide-promised .in-place-stays b a n (granted (y .0) c) x refl;
       move-moves = λ b a n y c x. wide-promised .move-moves b a n (granted (y .0) c) x refl;
       no-room-exactly = λ b n r c L l h one most.
@@ -114,4 +116,4 @@ answers-promised =
     sure-nothing : (f : Found) → ((f ≡ nothing → ⊥) → ⊥) → f ≡ nothing
     sure-nothing nothing n = refl
     sure-nothing (block t) n = absurd (n (λ e. omega (arith, ap isThere e)))
-    sure-nothing (thing o c) n = absurd (n (λ e. omega (arith, ap isThere e)))
+    sure-nothing (thing o c k) n = absurd (n (λ e. omega (arith, ap isThere e)))

@@ -3,26 +3,28 @@ use Prim.Native.Nat.{ℕ, zero, suc, _+_, _-_, _*_, _%_, _≤_, _<_}
 use mathlib.Core.Path.{_≡_, refl, sym, ap, ap₂, subst, _∙_}
 use mathlib.Core.Bool.{cond}
 use mathlib.Core.List.{List, [], _∷_}
+use mathlib.Core.Logic.{_⊎_, inl, inr, ⊎-elim}
 use native.Mathlib.Omega.{arith}
-use native.Mathlib.Decide.{decLe}
+use native.Mathlib.Decide.{ℕ-discrete, decLe}
 use lib.ListN.{length, getD}
 use lib.Dec.{eqb, leb}
 use borrow.Author.Tests.{eq-eqb, ne-eqb, le-leb, lt-leb}
 use Rattle.words.specs.Width.{Width}
 use Rattle.words.specs.Word.{wordAt}
-use Rattle.model.specs.Shape.{shape, start, leastFree, leastVariable, itemSize, pageNeed, endOf}
-use Rattle.model.specs.Parts.{headAt}
+use Rattle.model.specs.Shape.{shape, start, leastFree, leastVariable, classOf, itemSize, pageNeed, endOf}
+use Rattle.model.specs.Parts.{freeFlags, flagsIn, askedIn, headAt}
 use Rattle.model.specs.Picture.{Word, Shows}
 use Rattle.model.specs.Layout.{Slot, idle, held, Use, variable, page, Block, free, used, Layout, ifFree, useSize, sizeOf, ends, words}
-use Rattle.model.specs.Sound.{times, Apart, AllowedUse, Allowed, AllAllowed, idleItems, Valid, Here, Sound}
+use Rattle.model.specs.Sound.{times, Within, AllWithin, Apart, AllowedUse, Allowed, AllAllowed, idleItems, Valid, Here, Sound}
 use Rattle.model.proofs.Sizes.{flags-idle}
+use Rattle.model.proofs.items.Asked.{asked-in}
 use Rattle.model.proofs.blocks.Blocks.{le-ends}
-use Rattle.marking.specs.Uses.{Slots, useKind, Headers}
+use Rattle.marking.specs.Uses.{Slots, classAt, useKind, Headers}
 use Rattle.walking.specs.Onward.{Reads}
 use Rattle.following.specs.Lists.{named, Chain}
 use Rattle.visiting.specs.Lists.{Chains}
 use Rattle.marking.proofs.MapLaws.{fewer}
-use Rattle.marking.proofs.PageLaws.{classAt, page-class}
+use Rattle.marking.proofs.PageLaws.{page-class}
 use Rattle.walking.proofs.Walks.{use-size, use-kind}
 use Rattle.sound.proofs.HereFilled.{here-reads, here-chains}
 use Rattle.promises.proofs.Stable.{numbers}
@@ -36,23 +38,25 @@ module _ {w : ℕ} (wd : Width w) where
     -- n items of class c from p on
     unfoldable slotsAt : ℕ → ℕ → ℕ → List Slot
     slotsAt c p zero = []
-    slotsAt c p (suc n) = cond (eqb (wordAt w b p % 4) 1) idle held ∷ slotsAt c (p + itemSize (shape w) c) n
+    slotsAt c p (suc n) = cond (eqb (flagsIn (wordAt w b p)) freeFlags) idle (held (askedIn (wordAt w b p))) ∷ slotsAt c (p + itemSize (shape w) c) n
 
-    slots-are : (c p : ℕ) (ss : List Slot) → Slots w b c p ss → slotsAt c p (length ss) ≡ ss
+    slots-are : (c p : ℕ) (ss : List Slot) → c < 32 → Slots w b c p ss → slotsAt c p (length ss) ≡ ss
     unfolding Slots slotsAt
-    slots-are c p [] h = refl
-    slots-are c p (idle ∷ ss) h = rw (eq-eqb (wordAt w b p % 4) 1 (flags-idle wd (wordAt w b p) c (h .0)), slots-are c (p + itemSize (shape w) c) ss (h .1))
-    slots-are c p (held ∷ ss) h = rw (ne-eqb (wordAt w b p % 4) 1 (λ e. omega (arith, h .0)), slots-are c (p + itemSize (shape w) c) ss (h .1))
+    slots-are c p [] l h = refl
+    slots-are c p (idle ∷ ss) l h = rw (eq-eqb (flagsIn (wordAt w b p)) freeFlags (flags-idle wd (wordAt w b p) c (h .0)), slots-are c (p + itemSize (shape w) c) ss l (h .1))
+    slots-are c p (held n ∷ ss) l h =
+        let e : askedIn (wordAt w b p) ≡ n = ap askedIn (h .0) ∙ asked-in c n l in
+        rw (ne-eqb (flagsIn (wordAt w b p)) freeFlags (λ e. omega (arith, h .0)), e, slots-are c (p + itemSize (shape w) c) ss l (h .1))
 
     -- a block in use at p whose tag is t
     unfoldable pageAt : ℕ → ℕ → ℕ → Use
     pageAt c p t = page c (t - 3 - pageNeed (shape w) c) (slotsAt c (p + w) ((shape w) .perPage c))
 
-    page-is : (c k p t : ℕ) (ss : List Slot) → Slots w b c (p + w) ss → length ss ≡ (shape w) .perPage c → t ≡ 2 * w + length ss * itemSize (shape w) c + k + 3 → pageAt c p t ≡ page c k ss
+    page-is : (c k p t : ℕ) (ss : List Slot) → c < 32 → Slots w b c (p + w) ss → length ss ≡ (shape w) .perPage c → t ≡ 2 * w + length ss * itemSize (shape w) c + k + 3 → pageAt c p t ≡ page c k ss
     unfolding pageAt
-    page-is c k p t ss h n f =
+    page-is c k p t ss l h n f =
         ap₂ (λ (x : ℕ) (y : List Slot). page c x y) (omega (arith, f, ap (λ (x : ℕ). x * itemSize (shape w) c) n))
-        (ap (λ (x : ℕ). slotsAt c (p + w) x) (sym n) ∙ slots-are c (p + w) ss h)
+        (ap (λ (x : ℕ). slotsAt c (p + w) x) (sym n) ∙ slots-are c (p + w) ss l h)
 
     unfoldable useAt : ℕ → ℕ → Use
     useAt p t = cond (eqb (t % 8) 2) (variable (t - 2)) (pageAt (classAt w b p) p t)
@@ -65,7 +69,7 @@ module _ {w : ℕ} (wd : Width w) where
         rw (eq-eqb (t % 8) 2 (omega (arith, f, g))) (ap (λ (x : ℕ). variable x) (omega (arith, f)))
     use-is p t (page c k ss) a h e =
         let z = use-size wd (page c k ss) a in
-        rw (ne-eqb (t % 8) 2 (λ f. omega (arith, f, e, z .1)), ← page-class wd b c k p ss a h) (page-is c k p t ss h (a .1) e)
+        rw (ne-eqb (t % 8) 2 (λ f. omega (arith, f, e, z .1)), ← page-class wd b c k p ss a h) (page-is c k p t ss (omega (arith, a .0, wd)) h (a .1) e)
 
     -- blocks from p to the end, at most so many
     unfoldable blockAt : ℕ → ℕ → Block
@@ -150,10 +154,25 @@ module _ {w : ℕ} (wd : Width w) where
       go (yes l) = l
       go (no l) = absurd (s l)
 
+  sure-within : (c : ℕ) (s : Slot) → Sure (Within c s) → Within c s
+  unfolding Within
+  sure-within c idle n = tt
+  sure-within c (held m) n = go (ℕ-discrete m 0) (ℕ-discrete (classOf m) c)
+    where
+      go : Dec (m ≡ 0) → Dec (classOf m ≡ c) → (m ≡ 0) ⊎ (classOf m ≡ c)
+      go (yes e) d = inl e
+      go (no e) (yes k) = inr k
+      go (no e) (no k) = absurd (n (λ x. ⊎-elim e k x))
+
+  sure-slots : (c : ℕ) (ss : List Slot) → Sure (AllWithin c ss) → AllWithin c ss
+  unfolding AllWithin
+  sure-slots c [] n = tt
+  sure-slots c (s ∷ ss) n = (sure-within c s (so (λ a. a .0) n), sure-slots c ss (so (λ a. a .1) n))
+
   sure-use : (u : Use) → Sure (AllowedUse (shape w) u) → AllowedUse (shape w) u
   unfolding AllowedUse
   sure-use (variable s) n = (sure-le (leastVariable (shape w)) s (so (λ a. a .0) n), numbers (s % 8) 0 (so (λ a. a .1) n))
-  sure-use (page c k ss) n = (sure-le (suc c) (4 * w) (so (λ a. a .0) n), numbers (length ss) ((shape w) .perPage c) (so (λ a. a .1) n), sure-le (suc k) (leastFree (shape w)) (so (λ a. a .2) n), numbers (k % 8) 0 (so (λ a. a .3) n))
+  sure-use (page c k ss) n = (sure-le (suc c) (4 * w) (so (λ a. a .0) n), numbers (length ss) ((shape w) .perPage c) (so (λ a. a .1) n), sure-le (suc k) (leastFree (shape w)) (so (λ a. a .2) n), numbers (k % 8) 0 (so (λ a. a .3) n), sure-slots c ss (so (λ a. a .4) n))
 
   sure-allowed : (bs : List Block) → Sure (AllAllowed (shape w) bs) → AllAllowed (shape w) bs
   unfolding AllAllowed Allowed

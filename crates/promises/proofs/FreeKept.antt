@@ -48,4 +48,4 @@ module _ {w : ℕ} (wd : Width w) where
       go : (f : Found) → find (shape w) a L ≡ f → FreeKept (shape w) b a L r M
       go nothing e = absurd (omega (arith, g .granted, ap (λ (o : Outcome). o .refusal) is, ap (λ (f : Found). found (shape w) f (refused b notLive) (granted 0 (drawn (shape w) (without (shape w) a L) b)) .refusal) e))
       go (block t) e = freed-kept (block t) e (λ k. omega (arith, ap isThere k)) (rw e at is)
-      go (thing o c) e = freed-kept (thing o c) e (λ k. omega (arith, ap isThere k)) (rw e at is)
+      go (thing o c j) e = freed-kept (thing o c j) e (λ k. omega (arith, ap isThere k)) (rw e at is)

@@ -14,10 +14,12 @@ pub mod FoundLive
 pub mod Moved
 pub mod ResizeKept
 pub mod Places
+pub mod AskedShown
 pub mod StaysSound
 pub mod NoRoomExact
 pub mod Longer
 pub mod Doing
+pub mod LookedUp
 pub mod Promised
 pub mod OneResult
 pub mod AnswersPromised

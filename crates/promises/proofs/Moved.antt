@@ -11,10 +11,10 @@ use Rattle.words.specs.Width.{Width}
 use Rattle.words.specs.Copy.{copied}
 use Rattle.words.specs.Word.{Bytes}
 use Rattle.words.proofs.CopyLaws.{part-agree, length-copied, copied-in, copied-out}
-use Rattle.model.specs.Shape.{shape, endOf}
+use Rattle.model.specs.Shape.{shape, largestItem, endOf}
 use Rattle.model.specs.Layout.{Layout}
 use Rattle.model.specs.Sound.{Here}
-use Rattle.model.specs.Rules.{Made, allocate, find, capacity}
+use Rattle.model.specs.Rules.{Made, allocate, find, shownOf}
 use Rattle.model.specs.Live.{_∈_, Payload, content, live}
 use Rattle.model.specs.Calls.{granted, Lent, drawn, without}
 use Rattle.model.specs.Promises.{ResizeKept, Kept}
@@ -26,7 +26,7 @@ use Rattle.promises.proofs.Answers.{Does, draws, drawn-length, drawn-by
 use Rattle.model.proofs.lives.LiveFound.{isThere, live-is-there}
 use Rattle.model.proofs.lives.Moving.{live-apart}
 use Rattle.model.proofs.lives.FreeLives.{Removed, freed-removes}
-use Rattle.promises.proofs.FoundLive.{is-there, found-size}
+use Rattle.promises.proofs.FoundLive.{is-there, found-shown, shown-within}
 use Rattle.promises.proofs.Parts.{take-take, part-moved}
 
 module _ {w : ℕ} (wd : Width w) where
@@ -38,7 +38,7 @@ module _ {w : ℕ} (wd : Width w) where
 
   module _ (b : List ℕ) (L : Layout) (l : Lent (shape w) b) (h : Here (shape w) b L) (a n : ℕ) (one : 1 ≤ n) (m : Made) (fm : allocate (shape w) n L ≡ some m) (live-there : isThere (find (shape w) a L) ≡ 1) where
     new : Granted (shape w) (endOf (length b)) n L m
-    new = allocate-grants (shape w) (endOf (length b)) n (shape-good wd) L m (h .valid) one fm
+    new = allocate-grants (shape w) (endOf (length b)) n (shape-good wd) one L m (h .valid) fm
 
     was : Removed (shape w) (endOf (length b)) L a (find (shape w) a L)
     was = freed-removes (shape w) (shape-good wd) (h .valid) a (find (shape w) a L) refl (is-there (find (shape w) a L) live-there)
@@ -51,7 +51,7 @@ module _ {w : ℕ} (wd : Width w) where
     grownBytes = drawn (shape w) (m .layout) b
 
     abbrev count : ℕ
-    count = min (capacity (shape w) (find (shape w) a L)) n
+    count = min (shownOf (shape w) (find (shape w) a L)) n
 
     abbrev copiedBytes : List ℕ
     copiedBytes = copied a (m .at) count grownBytes
@@ -60,10 +60,10 @@ module _ {w : ℕ} (wd : Width w) where
     old-in = new .adds .kept (was .payload) (was .adds .there)
 
     old-area : a + count ≤ length grownBytes
-    old-area = omega (arith, in-area (shape w) (endOf (length b)) K (new .valid) (was .payload) old-in .1, was .at, was .size, min-left (capacity (shape w) (find (shape w) a L)) n, drawn-length wd b L l h K)
+    old-area = omega (arith, in-area (shape w) (endOf (length b)) K (new .valid) (was .payload) old-in .1, was .at, was .shown, shown-within wd (endOf (length b)) K (new .valid) (was .payload) old-in, min-left (shownOf (shape w) (find (shape w) a L)) n, drawn-length wd b L l h K)
 
     new-area : m .at + count ≤ length grownBytes
-    new-area = omega (arith, in-area (shape w) (endOf (length b)) K (new .valid) (new .payload) (new .adds .there) .1, new .at, new .large, min-right (capacity (shape w) (find (shape w) a L)) n, drawn-length wd b L l h K)
+    new-area = omega (arith, in-area (shape w) (endOf (length b)) K (new .valid) (new .payload) (new .adds .there) .1, new .at, new .large, min-right (shownOf (shape w) (find (shape w) a L)) n, drawn-length wd b L l h K)
 
     copied-length : length copiedBytes ≡ length b
     copied-length = length-copied grownBytes a (m .at) count old-area new-area ∙ drawn-length wd b L l h K
@@ -71,7 +71,7 @@ module _ {w : ℕ} (wd : Width w) where
     -- only the new record's bytes are copied over
     copied-apart : (i : ℕ) → (new .payload .address ≤ i → i < new .payload .address + new .payload .size → ⊥) → getD copiedBytes i 0 ≡ getD grownBytes i 0
     copied-apart i o =
-        copied-out grownBytes a (m .at) count old-area new-area i (λ lo hi. o (omega (arith, new .at)) (omega (arith, new .at, new .large, min-right (capacity (shape w) (find (shape w) a L)) n)))
+        copied-out grownBytes a (m .at) count old-area new-area i (λ lo hi. o (omega (arith, new .at)) (omega (arith, new .at, new .large, min-right (shownOf (shape w) (find (shape w) a L)) n)))
 
     copied-here : Here (shape w) copiedBytes K
     copied-here =
@@ -138,19 +138,23 @@ module _ {w : ℕ} (wd : Width w) where
         }
 
     beginning : (x : Payload) → x ∈ live (shape w) L → x .address ≡ a
-        → take (min (x .size) n) (content (drawn (shape w) (without (shape w) a K) copiedBytes) (new .payload)) ≡ take (min (x .size) n) (content b x)
+        → take (min (x .shown) n) (content (drawn (shape w) (without (shape w) a K) copiedBytes) (new .payload)) ≡ take (min (x .shown) n) (content b x)
     beginning x k e =
-        let s : x .size ≡ capacity (shape w) (find (shape w) a L) = found-size wd (endOf (length b)) L a (h .valid) x k e in
+        let s : x .shown ≡ shownOf (shape w) (find (shape w) a L) = found-shown wd (endOf (length b)) L a (h .valid) x k e in
         let i = new .adds .kept x k in
         let y = new .payload in
-        let low : min (x .size) n ≤ y .size = omega (arith, new .large, min-right (x .size) n) in
-        let here : take (min (x .size) n) (drop (y .address) copiedBytes) ≡ take (min (x .size) n) (drop (x .address) grownBytes) =
+        let low : min (x .shown) n ≤ y .size = omega (arith, new .large, min-right (x .shown) n) in
+        let here : take (min (x .shown) n) (drop (y .address) copiedBytes) ≡ take (min (x .shown) n) (drop (x .address) grownBytes) =
         rw (s, e, new .at) (part-moved grownBytes copiedBytes a (m .at) count old-area (omega (arith, new-area, length-copied grownBytes a (m .at) count old-area new-area)) (λ q lt. copied-in grownBytes a (m .at) count old-area new-area q lt)) in
-        ap (λ (z : List ℕ). take (min (x .size) n) z) (content-kept (shape w) (endOf (length copiedBytes)) (without (shape w) a K) copiedBytes (gone .valid) (new .payload) new-still)
-        ∙ take-take (min (x .size) n) (y .size) (drop (y .address) copiedBytes) low
+        ap (λ (z : List ℕ). take (min (x .shown) n) z) (content-kept (shape w) (endOf (length copiedBytes)) (without (shape w) a K) copiedBytes (gone .valid) (new .payload) new-still)
+        ∙ take-take (min (x .shown) n) (y .size) (drop (y .address) copiedBytes) low
         ∙ here
-        ∙ sym (take-take (min (x .size) n) (x .size) (drop (x .address) grownBytes) (min-left (x .size) n))
-        ∙ ap (λ (z : List ℕ). take (min (x .size) n) z) (content-kept (shape w) (endOf (length b)) K b (new .valid) x i)
+        ∙ sym (take-take (min (x .shown) n) (x .size) (drop (x .address) grownBytes) (omega (arith, min-left (x .shown) n, shown-within wd (endOf (length b)) L (h .valid) x k)))
+        ∙ ap (λ (z : List ℕ). take (min (x .shown) n) z) (content-kept (shape w) (endOf (length b)) K b (new .valid) x i)
+
+    -- what moved shows as much as was asked for, where it is an item
+    pub moved-shown : (new-in : Payload) × (new-in ∈ live (shape w) (without (shape w) a (m .layout))) × (new-in .address ≡ m .at) × (n ≤ largestItem (shape w) → new-in .shown ≡ n)
+    moved-shown = (new .payload, new-still, new .at, new .shown)
 
     pub moved-kept : ResizeKept (shape w) b a n L (granted (m .at) (drawn (shape w) (without (shape w) a (m .layout)) copiedBytes)) (without (shape w) a (m .layout))
     moved-kept = (

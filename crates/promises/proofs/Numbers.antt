@@ -54,7 +54,7 @@ module _ (S : Shape) (b : List ℕ) (l : List ℕ) where
 
   found-in : {A : Type 0} (number : A → ℕ) (f : Found) (else next : A) → number else ∈ l → number next ∈ l → number (found S f else next) ∈ l
   found-in number (block t) else next e h = h
-  found-in number (thing o c) else next e h = h
+  found-in number (thing o c k) else next e h = h
   found-in number nothing else next e h = e
 
   made-in : (m : Option Made) (heap : Made → List ℕ) → 0 ∈ l → noRoom ∈ l → made S b m heap .refusal ∈ l

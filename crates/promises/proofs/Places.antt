@@ -20,7 +20,7 @@ use Rattle.promises.proofs.Moved.{moved-away}
 
 module _ (S : Shape) (b : List ℕ) (a n : ℕ) where
   -- what is granted was live
-  was-there : (L : Layout) {o : Outcome} {d : Done} → Went S b a n L o d → o .refusal ≡ 0 → isThere (find S a L) ≡ 1
+  pub was-there : (L : Layout) {o : Outcome} {d : Done} → Went S b a n L o d → o .refusal ≡ 0 → isThere (find S a L) ≡ 1
   was-there L (nowhere e) g = absurd (omega (arith, g))
   was-there L (inPlace i M s) g = i
   was-there L (elsewhere i m k) g = i

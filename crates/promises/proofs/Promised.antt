@@ -10,13 +10,14 @@ use Rattle.sound.proofs.OneLayout.{one-layout}
 use Rattle.promises.proofs.Determined.{determined, reading-determined}
 use Rattle.promises.proofs.Refused.{refused-untouched}
 use Rattle.promises.proofs.Numbers.{answers-only, reading-answers-only}
-use Rattle.promises.proofs.FoundLive.{found-is-live, look-up-shows}
+use Rattle.promises.proofs.FoundLive.{found-is-live, look-up-shows, shown-within}
 use Rattle.promises.proofs.Accepts.{accepts-exactly}
 use Rattle.promises.proofs.StaysSound.{stays-sound}
 use Rattle.promises.proofs.Opened.{opens-sound}
 use Rattle.promises.proofs.AllocateKept.{allocate-keeps}
 use Rattle.promises.proofs.FreeKept.{free-keeps}
 use Rattle.promises.proofs.ResizeKept.{resize-keeps, each-way-keeps}
+use Rattle.promises.proofs.AskedShown.{asked-shown}
 use Rattle.promises.proofs.Places.{in-place-stays, move-moves}
 use Rattle.promises.proofs.NoRoomExact.{no-room-exactly, smaller-kept}
 use Rattle.promises.proofs.Longer.{longer-agrees}
@@ -38,10 +39,12 @@ promised {w} wd =
       no-word-inside = no-word-inside (shape w);
       found-is-live = found-is-live wd;
       look-up-shows = look-up-shows wd;
+      shown-within = shown-within wd;
       allocate-keeps = allocate-keeps wd;
       free-keeps = free-keeps wd;
       resize-keeps = resize-keeps wd;
       each-way-keeps = each-way-keeps wd;
+      asked-shown = asked-shown wd;
       in-place-stays = in-place-stays (shape w);
       move-moves = move-moves wd;
       split-gives = split-gives (shape w);

@@ -40,7 +40,7 @@ module _ (b : List ℕ) where
 
     found-plain : (f : Found) (o : Outcome) → Plainly o → Plainly (found S f (refused b notLive) o)
     found-plain (block t) o p = p
-    found-plain (thing x c) o p = p
+    found-plain (thing x c k) o p = p
     found-plain nothing o p = λ n. refl
 
     made-plain : (m : Option Made) (heap : Made → List ℕ) → Plainly (made S b m heap)

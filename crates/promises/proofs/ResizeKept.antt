@@ -9,7 +9,7 @@ use lib.ListN.{length, take, drop}
 use Rattle.words.specs.Width.{Width}
 use Rattle.model.specs.Shape.{shape, endOf}
 use Rattle.model.specs.Layout.{Layout}
-use Rattle.model.specs.Sound.{Here}
+use Rattle.model.specs.Sound.{Valid, Here}
 use Rattle.model.specs.Rules.{find, capacity}
 use Rattle.model.specs.Calls.{Way, Outcome, granted, Lent, drawn, sized}
 use Rattle.model.specs.Promises.{resizing, resizingBy, ResizeKept, Comes, ResizeKeeps}
@@ -21,15 +21,15 @@ use Rattle.model.proofs.rules.OnLayouts.{Done}
 use Rattle.model.proofs.rules.ResizeWays.{Went, nowhere, inPlace, elsewhere, asItIs, noWay, went, went-by}
 use Rattle.promises.proofs.Cases.{granted-size}
 use Rattle.promises.proofs.Answers.{does-same}
-use Rattle.promises.proofs.FoundLive.{found-size}
+use Rattle.promises.proofs.FoundLive.{found-size, shown-within}
 use Rattle.promises.proofs.Parts.{take-take}
 use Rattle.promises.proofs.Moved.{moved-kept}
 use Rattle.promises.proofs.Doing.{went-does}
 
 module _ {w : ℕ} (wd : Width w) where
   -- in place
-  stayed-kept : (b : List ℕ) (a n : ℕ) (L M : Layout) → Stayed (shape w) n a L (endOf (length b)) M → ResizeKept (shape w) b a n L (granted a (drawn (shape w) M b)) M
-  stayed-kept b a n L M s = (
+  stayed-kept : (b : List ℕ) (a n : ℕ) (L M : Layout) → Valid (shape w) (endOf (length b)) L → Stayed (shape w) n a L (endOf (length b)) M → ResizeKept (shape w) b a n L (granted a (drawn (shape w) M b)) M
+  stayed-kept b a n L M v s = (
     (λ x h o. (s .others x h o, content-kept (shape w) (endOf (length b)) M b (s .valid) x (s .others x h o))),
     s .only,
     (λ x h e. (
@@ -37,10 +37,10 @@ module _ {w : ℕ} (wd : Width w) where
       s .there,
       s .at,
       s .large,
-      ap (λ (z : List ℕ). take (min (x .size) n) z) (content-kept (shape w) (endOf (length b)) M b (s .valid) (s .payload) (s .there))
-          ∙ take-take (min (x .size) n) (s .payload .size) (drop (s .payload .address) b) (omega (arith, min-le-right (x .size) n, s .large))
-          ∙ ap (λ (z : ℕ). take (min (x .size) n) (drop z b)) (s .at ∙ sym e)
-          ∙ sym (take-take (min (x .size) n) (x .size) (drop (x .address) b) (min-le-left (x .size) n)),
+      ap (λ (z : List ℕ). take (min (x .shown) n) z) (content-kept (shape w) (endOf (length b)) M b (s .valid) (s .payload) (s .there))
+          ∙ take-take (min (x .shown) n) (s .payload .size) (drop (s .payload .address) b) (omega (arith, min-le-right (x .shown) n, s .large))
+          ∙ ap (λ (z : ℕ). take (min (x .shown) n) (drop z b)) (s .at ∙ sym e)
+          ∙ sym (take-take (min (x .shown) n) (x .size) (drop (x .address) b) (omega (arith, min-le-left (x .shown) n, shown-within wd (endOf (length b)) L v x h))),
     )),
     (λ n. absurd (n refl)),
   )
@@ -58,7 +58,7 @@ module _ {w : ℕ} (wd : Width w) where
     -- wherever a granted resize led
     went-kept : 1 ≤ n → {o : Outcome} {d : Done} → Went (shape w) b a n L o d → o .refusal ≡ 0 → ResizeKept (shape w) b a n L o (d .layout)
     went-kept one (nowhere e) g = absurd (omega (arith, g))
-    went-kept one (inPlace i M s) g = stayed-kept b a n L M (stays-stayed (shape w) (shape-good wd) n a one (h .valid) M s)
+    went-kept one (inPlace i M s) g = stayed-kept b a n L M (h .valid) (stays-stayed (shape w) (shape-good wd) n a one (h .valid) M s)
     went-kept one (elsewhere i m k) g = moved-kept wd b L l h a n one m k i
     went-kept one (asItIs i c) g = unmoved-kept c
     went-kept one (noWay i) g = absurd (omega (arith, g))

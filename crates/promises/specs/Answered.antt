@@ -5,13 +5,14 @@ use mathlib.Core.Logic.{_↔_}
 use mathlib.Core.List.{List}
 use mathlib.Core.Option.{none}
 use denote.Ref.{RefT, now, ptr}
-use Rattle.model.specs.Shape.{wide}
+use lib.ListN.{length}
+use Rattle.model.specs.Shape.{wide, largestItem}
 use Rattle.model.specs.Layout.{Layout}
 use Rattle.model.specs.Sound.{Here, Sound}
 use Rattle.model.specs.Rules.{find, stays}
 use Rattle.model.specs.Live.{_∈_, Payload, live}
 use Rattle.model.specs.Walking.{column}
-use Rattle.model.specs.Calls.{Way, staying, moving, Lent, granted, Steps, Counts}
+use Rattle.model.specs.Calls.{Way, staying, moving, keeping, Lent, granted, Steps, Counts}
 use Rattle.model.specs.Promises.{Call, initialising, checking, allocating, freeing, resizing, resizingBy, numbersOf, Comes, AllocateKept, FreeKept, ResizeKept, NoRoom, NotOpen, NoRoomFor}
 use Rattle.model.specs.declared.Address.{Address}
 use Rattle.heap.specs.declared.Answer.{Answer}
@@ -24,7 +25,7 @@ use Rattle.heap.specs.declared.walking.Step.{Step}
 use Rattle.heap.specs.Answers.{outcome, Examined}
 use Rattle.heap.specs.Counting.{toldCounted, TableTold}
 use Rattle.heap.specs.Walking.{toldStep}
-use Rattle.heap.specs.Lookup.{Part, RefusalTold}
+use Rattle.heap.specs.Lookup.{Part, PartTold, RefusalTold}
 use Rattle.jagwibodu.specs.Numbers.{Numbered}
 use Rattle.records.specs.declared.Played.{Played}
 use Rattle.records.specs.Lines.{Plays}
@@ -45,6 +46,17 @@ pub record OneResult : Type 0 where
   pub steps : (b : List ℕ) (at : ℕ) (r r′ : Step) → Steps wide b at (toldStep r) → Steps wide b at (toldStep r′) → r ≡ r′
   pub plays : (b : List ℕ) (lent kind : ℕ) (body : List ℕ) (r r′ : Played) (c c′ : List ℕ) → Plays b lent kind body r c → Plays b lent kind body r′ c′ → (r ≡ r′) × (c ≡ c′)
 
+-- the calls that grant a record for n bytes: allocate, a resize in place, a move
+abbrev pub AsksFor : ℕ → Call → Type 0
+AsksFor n initialising = ⊥
+AsksFor n checking = ⊥
+AsksFor n (allocating k) = k ≡ n
+AsksFor n (freeing a) = ⊥
+AsksFor n (resizing a k) = ⊥
+AsksFor n (resizingBy staying a k) = k ≡ n
+AsksFor n (resizingBy moving a k) = k ≡ n
+AsksFor n (resizingBy keeping a k) = ⊥
+
 -- Demands 1 and 2 of what the calls answer
 pub record AnswersPromised : Type 0 where
   -- a refusal leaves every byte as it was, and a call gives none but its numbers
@@ -63,6 +75,9 @@ pub record AnswersPromised : Type 0 where
       → ResizeKept wide b a n L (granted (x .0) c) L′
   pub each-way-keeps : (v : Way) (b : List ℕ) (a n : ℕ) (x : Address) (c : List ℕ) (L L′ : Layout) → Lent wide b → Here wide b L → MayAnswer b (resizingBy v a n) (Granted x) c → Here wide c L′
       → ResizeKept wide b a n L (granted (x .0) c) L′
+  -- an item that was granted for n bytes is looked up as n bytes
+  pub looked-up : (n : ℕ) (q : Call) → AsksFor n q → (b : List ℕ) (a : Address) (c : List ℕ) → Lent wide b → Sound wide b → MayAnswer b q (Granted a) c → n ≤ largestItem wide
+      → (r : List ℕ) → PartTold c (a .0) r → length r ≡ n
   -- in place gives the record's own address, a move never does
   pub in-place-stays : (b : List ℕ) (a n : ℕ) (x : Address) (c : List ℕ) → MayAnswer b (resizingBy staying a n) (Granted x) c → x .0 ≡ a
   pub move-moves : (b : List ℕ) (a n : ℕ) (x : Address) (c : List ℕ) → MayAnswer b (resizingBy moving a n) (Granted x) c → x .0 ≡ a → ⊥

@@ -45,9 +45,9 @@ table =
     ∷ figure 10000 [] (says 0 0 ∷ []) (word 24 312 ∷ word 312 9688 ∷ [])
     -- H, allocate 300: address 320, tag 322, rest at 632, size 9,368
     ∷ figure 10000 (allocating 300 ∷ []) (says 0 0 ∷ says 0 320 ∷ []) (word 312 322 ∷ word 24 632 ∷ word 632 9368 ∷ [])
-    -- then allocate 16: page at 632, tag 4,123; address 648, header 7; class 1 head 616; second item's header 10,245; rest at 4,752, size 5,248
+    -- then allocate 16: page at 632, tag 4,123; address 648, header 2,055 (01: 7, before (iv)); class 1 head 616; second item's header 10,245; rest at 4,752, size 5,248
     ∷ figure 10000 (allocating 300 ∷ allocating 16 ∷ []) (says 0 0 ∷ says 0 320 ∷ says 0 648 ∷ [])
-    (word 632 4123 ∷ word 640 7 ∷ word 56 616 ∷ word 664 10245 ∷ word 24 4752 ∷ word 4752 5248 ∷ [])
+    (word 632 4123 ∷ word 640 2055 ∷ word 56 616 ∷ word 664 10245 ∷ word 24 4752 ∷ word 4752 5248 ∷ [])
     -- then free 320: first free 312, its next 4,752
     ∷ figure 10000 (allocating 300 ∷ allocating 16 ∷ freeing 320 ∷ []) (says 0 0 ∷ says 0 320 ∷ says 0 648 ∷ says 0 0 ∷ []) (word 24 312 ∷ word 320 4752 ∷ [])
     -- then (a) allocate 264: rest of 40 at 592; (b) instead 272: rest of 32 at 600; (c) instead 273: whole, tag 322; all at address 320
@@ -71,14 +71,19 @@ table =
     -- (i) N 1,000, allocate 300, resize 320 to 20: there is no room for a page, so nothing changes; to 900: 6
     ∷ unchanged 1000 (allocating 300 ∷ resizing 320 20 ∷ []) (says 0 0 ∷ says 0 320 ∷ says 0 320 ∷ []) (word 312 322 ∷ word 24 632 ∷ word 632 368 ∷ [])
     ∷ unchanged 1000 (allocating 300 ∷ resizing 320 900 ∷ []) (says 0 0 ∷ says 0 320 ∷ says 6 0 ∷ []) (word 312 322 ∷ word 24 632 ∷ word 632 368 ∷ [])
-    -- (vii) H, allocate 16: address 328, header 7; class 1 head 296, the second item. In place to 9: nothing changes; to 17: 6
-    ∷ unchanged 10000 (allocating 16 ∷ resizingBy staying 328 9 ∷ []) (says 0 0 ∷ says 0 328 ∷ says 0 328 ∷ []) (word 320 7 ∷ word 56 296 ∷ word 344 5125 ∷ [])
-    ∷ unchanged 10000 (allocating 16 ∷ resizingBy staying 328 17 ∷ []) (says 0 0 ∷ says 0 328 ∷ says 6 0 ∷ []) (word 320 7 ∷ word 56 296 ∷ word 344 5125 ∷ [])
-    -- instead move 328 to 16: the same class moves too, to address 352, header 7; class 1 head 272, the first item, its header 5,125
-    ∷ figure 10000 (allocating 16 ∷ resizingBy moving 328 16 ∷ []) (says 0 0 ∷ says 0 328 ∷ says 0 352 ∷ []) (word 344 7 ∷ word 56 272 ∷ word 320 5125 ∷ [])
+    -- (vii) H, allocate 16: address 328, header 2,055; class 1 head 296, the second item. In place to 9: header 1,159; to 17: 6
+    ∷ figure 10000 (allocating 16 ∷ resizingBy staying 328 9 ∷ []) (says 0 0 ∷ says 0 328 ∷ says 0 328 ∷ []) (word 320 1159 ∷ word 56 296 ∷ word 344 5125 ∷ [])
+    ∷ unchanged 10000 (allocating 16 ∷ resizingBy staying 328 17 ∷ []) (says 0 0 ∷ says 0 328 ∷ says 6 0 ∷ []) (word 320 2055 ∷ word 56 296 ∷ word 344 5125 ∷ [])
+    -- instead move 328 to 16: the same class moves too, to address 352, header 2,055; class 1 head 272, the first item, its header 5,125
+    ∷ figure 10000 (allocating 16 ∷ resizingBy moving 328 16 ∷ []) (says 0 0 ∷ says 0 328 ∷ says 0 352 ∷ []) (word 344 2055 ∷ word 56 272 ∷ word 320 5125 ∷ [])
     -- N 1,000, allocate 300, in place 320 to 20: 6, though resize keeps it; move 320 to 20: 6
     ∷ unchanged 1000 (allocating 300 ∷ resizingBy staying 320 20 ∷ []) (says 0 0 ∷ says 0 320 ∷ says 6 0 ∷ []) (word 312 322 ∷ word 24 632 ∷ word 632 368 ∷ [])
     ∷ unchanged 1000 (allocating 300 ∷ resizingBy moving 320 20 ∷ []) (says 0 0 ∷ says 0 320 ∷ says 6 0 ∷ []) (word 312 322 ∷ word 24 632 ∷ word 632 368 ∷ [])
+    -- (iv) H, allocate 300 and 16, then 13: address 672, header 1,671; in place to 13 again: nothing changes
+    ∷ figure 10000 (allocating 300 ∷ allocating 16 ∷ allocating 13 ∷ []) (says 0 0 ∷ says 0 320 ∷ says 0 648 ∷ says 0 672 ∷ []) (word 664 1671 ∷ word 640 2055 ∷ [])
+    ∷ unchanged 10000 (allocating 300 ∷ allocating 16 ∷ allocating 13 ∷ resizingBy staying 672 13 ∷ []) (says 0 0 ∷ says 0 320 ∷ says 0 648 ∷ says 0 672 ∷ says 0 672 ∷ []) (word 664 1671 ∷ [])
+    -- N 4,800, allocate 30, resize 328 to 5: there is no room for another page, so the record is kept, and its header
+    ∷ unchanged 4800 (allocating 30 ∷ resizing 328 5 ∷ []) (says 0 0 ∷ says 0 328 ∷ says 0 328 ∷ []) (word 320 3855 ∷ [])
     ∷ []
 
 -- outcomes that the calls' contracts allow, one after the other, from bytes b on; the bytes then, and before the last; and what was answered

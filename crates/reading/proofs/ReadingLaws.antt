@@ -10,7 +10,7 @@ use borrow.Author.Tests.{eq-eqb, ne-eqb}
 use Rattle.words.specs.Width.{Width}
 use Rattle.words.specs.Word.{wordAt}
 use Rattle.model.specs.Shape.{shape, leastFree, itemSize, pageNeed, endOf, start}
-use Rattle.model.specs.Parts.{freeKind, variableKind, pageKind, tagOf, sizeIn, kindIn, classIn, heldHeader, farTagAt, firstItemAt}
+use Rattle.model.specs.Parts.{freeKind, variableKind, pageKind, tagOf, sizeIn, kindIn, classIn, heldFlags, flagsIn, farTagAt, firstItemAt}
 use Rattle.model.specs.Picture.{Shows}
 use Rattle.model.specs.Layout.{Slot, idle, held, variable, page, Block, free, used, Layout, useSize, sizeOf, ends, header, slotWords, useWords, own}
 use Rattle.model.specs.Sound.{Allowed, AllowedUse, AllAllowed, Here, Sound}
@@ -29,27 +29,26 @@ use Rattle.reading.specs.Counting.{heldFrom, PageAt, AtPage, PageTold, G
 held-read : (w : ℕ) (b l : List ℕ) (c : ℕ) → (q : ℕ) (ss : List Slot) → Shows w b (slotWords (shape w) c l q ss) → heldFrom w b c q (length ss) ≡ heldIn ss
 unfolding slotWords header Shows heldFrom heldIn
 held-read w b l c q [] s = refl
-held-read w b l c q (idle ∷ ss) s = rw (ne-eqb (wordAt w b q) (heldHeader c) (λ e. omega (arith, s .0))) (omega (arith, held-read w b l c (q + itemSize (shape w) c) ss (s .1)))
-held-read w b l c q (held ∷ ss) s = rw (eq-eqb (wordAt w b q) (heldHeader c) (s .0)) (omega (arith, held-read w b l c (q + itemSize (shape w) c) ss (s .1)))
+held-read w b l c q (idle ∷ ss) s = rw (ne-eqb (flagsIn (wordAt w b q)) heldFlags (λ e. omega (arith, s .0))) (omega (arith, held-read w b l c (q + itemSize (shape w) c) ss (s .1)))
+held-read w b l c q (held n ∷ ss) s = rw (eq-eqb (flagsIn (wordAt w b q)) heldFlags (omega (arith, s .0))) (omega (arith, held-read w b l c (q + itemSize (shape w) c) ss (s .1)))
 
 -- counting them, item by item
 pub record Held (w : ℕ) (b : List ℕ) (c first n size q left held : ℕ) : Type 0 where
   pub width : Width w
-  pub few : c < shape w .classes
   pub item-size : size ≡ itemSize (shape w) c
   pub small : held + left ≤ n
   pub many : n ≡ shape w .perPage c
   pub room : q + left * itemSize (shape w) c ≤ length b
   pub rest : held + heldFrom w b c q left ≡ heldFrom w b c first n
 
-pub held-start : {w : ℕ} → Width w → (b : List ℕ) (c first n size : ℕ) → c < shape w .classes → n ≡ shape w .perPage c → first + n * itemSize (shape w) c ≤ length b → size ≡ itemSize (shape w) c → Held w b c first n size first n 0
-held-start wd b c first n size l m r e = record { width = wd; few = l; item-size = e; small = omega arith; many = m; room = r; rest = omega arith }
+pub held-start : {w : ℕ} → Width w → (b : List ℕ) (c first n size : ℕ) → n ≡ shape w .perPage c → first + n * itemSize (shape w) c ≤ length b → size ≡ itemSize (shape w) c → Held w b c first n size first n 0
+held-start wd b c first n size m r e = record { width = wd; item-size = e; small = omega arith; many = m; room = r; rest = omega arith }
 
-held-turn : (w : ℕ) (b : List ℕ) (c q left : ℕ) → (left ≡ 0 → ⊥) → heldFrom w b c q left ≡ cond (eqb (wordAt w b q) (heldHeader c)) 1 0 + heldFrom w b c (q + itemSize (shape w) c) (left - 1)
+held-turn : (w : ℕ) (b : List ℕ) (c q left : ℕ) → (left ≡ 0 → ⊥) → heldFrom w b c q left ≡ cond (eqb (flagsIn (wordAt w b q)) heldFlags) 1 0 + heldFrom w b c (q + itemSize (shape w) c) (left - 1)
 unfolding heldFrom
 held-turn w b c q left l = go (left - 1) (omega arith) refl
   where
-    go : (k : ℕ) → left ≡ suc k → left - 1 ≡ k → heldFrom w b c q left ≡ cond (eqb (wordAt w b q) (heldHeader c)) 1 0 + heldFrom w b c (q + itemSize (shape w) c) (left - 1)
+    go : (k : ℕ) → left ≡ suc k → left - 1 ≡ k → heldFrom w b c q left ≡ cond (eqb (flagsIn (wordAt w b q)) heldFlags) 1 0 + heldFrom w b c (q + itemSize (shape w) c) (left - 1)
     go k e f = rw (f, e)
 
 pub one-less : (left s : ℕ) → (left ≡ 0 → ⊥) → s + (left - 1) * s ≡ left * s
@@ -69,16 +68,15 @@ module _ {w : ℕ} {b : List ℕ} {c first n size q left held : ℕ} (i : Held w
   pub held-next : (left ≡ 0 → ⊥) → q + size ≤ length b
   held-next l = omega (arith, i .room, i .item-size, one-less left (itemSize (shape w) c) l)
 
-  -- x is the item's header, m that of an item in use, and y 1 where they are the same, as code works them out
-  pub held-again : (left ≡ 0 → ⊥) → (x m y : ℕ) → x ≡ wordAt w b q → m ≡ heldHeader c → y ≡ cond (eqb x m) 1 0 → Held w b c first n size (q + size) (left - 1) (held + y)
+  -- x is the item's header, m its flags, and y 1 where they say that it is in use, as code works them out
+  pub held-again : (left ≡ 0 → ⊥) → (x m y : ℕ) → x ≡ wordAt w b q → m ≡ flagsIn x → y ≡ cond (eqb m heldFlags) 1 0 → Held w b c first n size (q + size) (left - 1) (held + y)
   held-again l x m y e em f =
-      let z : y ≡ cond (eqb (wordAt w b q) (heldHeader c)) 1 0 = f ∙ ap₂ (λ (i j : ℕ). cond (eqb i j) 1 0) e em in
+      let z : y ≡ cond (eqb (flagsIn (wordAt w b q)) heldFlags) 1 0 = f ∙ ap (λ (i : ℕ). cond (eqb i heldFlags) 1 0) (em ∙ ap flagsIn e) in
       rw (i .item-size)
       record {
         width = i .width;
-        few = i .few;
         item-size = refl;
-        small = omega (arith, i .small, z, cond-one (eqb (wordAt w b q) (heldHeader c)));
+        small = omega (arith, i .small, z, cond-one (eqb (flagsIn (wordAt w b q)) heldFlags));
         many = i .many;
         room = omega (arith, i .room, one-less left (itemSize (shape w) c) l);
         rest = omega (arith, i .rest, held-turn w b c q left l);

@@ -1,5 +1,6 @@
 // Statistics and the table of classes: each by one walk over the blocks, and over a page's items.
 use model::FREE;
+use model::HELD;
 use model::MOST_CLASSES;
 use model::PAGE;
 use model::Position;
@@ -7,7 +8,7 @@ use model::VARIABLE;
 use model::class_in;
 use model::end_of;
 use model::first_item_at;
-use model::held_header;
+use model::flags_in;
 use model::item_size;
 use model::items_in_page;
 use model::kind_in;
@@ -46,7 +47,7 @@ pub struct Page {
     pub idle: u64,
 }
 
-// 1 where two words are the same, else 0.
+// 1 where two numbers are the same, else 0.
 fn one_if(x: usize, y: usize) -> u64
     ensures { λ r. ⌜ r ≡ cond (eqb x y) 1 0 ⌝ }
 {
@@ -77,7 +78,7 @@ fn count_held(w: usize, h: &[u8], first: Position, c: usize, n: usize) -> u64
     let mut held = 0;
     while left != 0 {
         let x = word(w, h, q.0);
-        held += one_if(x, held_header(c));
+        held += one_if(flags_in(x), HELD);
         q = Position(q.0 + size);
         left -= 1;
     }

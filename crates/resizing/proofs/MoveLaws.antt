@@ -1,5 +1,5 @@
 -- A record moves: room is allocated, its bytes are copied there, and the old place is given back.
-use Prim.Native.Nat.{ℕ, min}
+use Prim.Native.Nat.{ℕ, _≤_, min}
 use mathlib.Core.Path.{_≡_, refl, sym, ap, subst, _∙_}
 use mathlib.Core.List.{List}
 use mathlib.Core.Logic.{inl, inr, ⊎-elim}
@@ -9,12 +9,13 @@ use lib.ListN.{length}
 use Rattle.words.specs.Copy.{copied, Room}
 use Rattle.model.specs.declared.Address.{Address}
 use Rattle.model.specs.Shape.{shape, endOf, start}
-use Rattle.model.specs.Layout.{Layout}
+use Rattle.model.specs.Layout.{Layout, ends}
 use Rattle.model.specs.Sound.{Here}
 use Rattle.model.specs.Rules.{Made, find, allocate, capacity}
 use Rattle.model.specs.Calls.{drawn}
 use Rattle.model.specs.Live.{_∈_, live}
 use Rattle.model.proofs.Good.{shape-good}
+use Rattle.model.proofs.lives.Holding.{find-by, shown-most}
 use Rattle.model.proofs.lives.Payloads.{in-area}
 use Rattle.model.proofs.rules.Allocation.{Granted, allocate-grants}
 use Rattle.model.proofs.lives.Moving.{payloadOf, found-live, live-apart, copied-here}
@@ -43,16 +44,20 @@ taken-some (some m) x e = (m, refl, ap address e)
 -- the old place and the new, in a layout of the bytes
 module _ {w : ℕ} (b : List ℕ) (a k n : ℕ) (q : Holding w b a k) (s : Asked w n) (L : Layout) (h : Here (shape w) b L) (m : Made) (e : allocate (shape w) n L ≡ some m) where
   grants : Granted (shape w) (endOf (length b)) n L m
-  grants = allocate-grants (shape w) (endOf (length b)) n (shape-good (q .ready .width)) L m (h .valid) (s .some-byte) e
+  grants = allocate-grants (shape w) (endOf (length b)) n (shape-good (q .ready .width)) (s .some-byte) L m (h .valid) e
 
   pub old-live : payloadOf (shape w) a (find (shape w) a L) ∈ live (shape w) (m .layout)
   old-live = grants .adds .kept (payloadOf (shape w) a (find (shape w) a L)) (found-live (shape w) a (start (shape w)) (L .blocks) (q .live L h))
+
+  -- no more is shown than it holds
+  held-few : k ≤ capacity (shape w) (find (shape w) a L)
+  held-few = omega (arith, q .shown L h, shown-most (q .ready .width) a (ends (shape w) (start (shape w)) (L .blocks)) (find (shape w) a L) (find-by (q .ready .width) a (start (shape w)) (L .blocks) (h .valid .allowed)))
 
   pub copy-room : (bytes to j : ℕ) → bytes ≡ length b → to ≡ m .at → j ≡ min k n → Room bytes a to j
   copy-room bytes to j eb et ej =
       let x = in-area (shape w) (endOf (length b)) (m .layout) (grants .valid) (payloadOf (shape w) a (find (shape w) a L)) old-live in
       let y = in-area (shape w) (endOf (length b)) (m .layout) (grants .valid) (grants .payload) (grants .adds .there) in
-      let size : k ≡ capacity (shape w) (find (shape w) a L) = q .large L h in
+      let few = held-few in
       record {
         source = omega (arith, x .1);
         target = omega (arith, y .1, grants .at, grants .large);

@@ -1,5 +1,5 @@
 -- Resize: what each way through the call shows.
-use Prim.Native.Nat.{ℕ, _+_, _-_, _*_, _≤_, _<_, min}
+use Prim.Native.Nat.{ℕ, _-_, _*_, _≤_, _<_, min}
 use mathlib.Core.Path.{_≡_, refl, sym, ap, subst, _∙_}
 use mathlib.Core.Bool.{Bool, true, false, cond}
 use mathlib.Core.List.{List}
@@ -10,18 +10,16 @@ use borrow.Author.Tests.{eq-eqb, ne-eqb}
 use lib.ListN.{length}
 use lib.Dec.{leb}
 use Rattle.words.specs.Copy.{copied}
-use Rattle.words.specs.Word.{Bytes}
 use Rattle.model.specs.declared.Address.{Address}
 use Rattle.model.specs.declared.Position.{Position}
-use Rattle.model.specs.Shape.{shape, endOf, classOf, offsetOf, start, leastVariable, largestItem}
+use Rattle.model.specs.Shape.{shape, endOf, classOf, itemShown, offsetOf, start, leastVariable, largestItem}
 use Rattle.model.specs.Layout.{Layout}
 use Rattle.model.specs.Sound.{Here}
-use Rattle.model.specs.Rules.{Spot, Made, Found, block, thing, nothing, find, allocate, capacity, stays, freed}
+use Rattle.model.specs.Rules.{Spot, Made, Found, block, thing, nothing, find, allocate, capacity, shownOf, renewed, stays, freed}
 use Rattle.model.specs.Refusals.{noRoom}
 use Rattle.model.specs.Calls.{Way, staying, moving, keeping, refused, granted, drawn, made, without, placed, movedBytes, oneWay, resizedBy}
 use Rattle.model.proofs.Good.{shape-good}
 use Rattle.model.proofs.rules.ResizeWays.{by-nowhere, by-there}
-use Rattle.model.proofs.pictures.Drawn.{drawn-same}
 use Rattle.model.proofs.walks.Finding.{item-found}
 use Rattle.model.proofs.lives.LiveFound.{there-is}
 use Rattle.model.proofs.lives.Moving.{taken-large, item-again}
@@ -37,15 +35,15 @@ use Rattle.engine.specs.Ready.{Ready}
 use Rattle.find.specs.Find.{Finds}
 use Rattle.engine.specs.Allocate.{Asked}
 use Rattle.holding.specs.Holding.{Holds}
-use Rattle.items.specs.Items.{ItemLive, GaveItem}
+use Rattle.items.specs.Items.{ItemLive, GaveItem, RenewedItem}
 use Rattle.releasing.specs.Release.{BlockLive}
 use Rattle.reshaping.specs.Reshape.{Stays, Reshaped}
 use Rattle.resizing.specs.Move.{Holding, Carried}
 use Rattle.resizing.specs.Ways.{ItemLiveAt, BlockLiveAt, outcomeOf, keptAs, ByWay}
 use Rattle.resizing.proofs.MoveLaws.{taken-none, taken-some, old-live}
 
-not-nothing-item : (o c : ℕ) → thing o c ≡ nothing → ⊥
-not-nothing-item o c e = let z : _≡_ {A = ℕ} 0 1 = cc in omega arith
+not-nothing-item : (o c k : ℕ) → thing o c k ≡ nothing → ⊥
+not-nothing-item o c k e = let z : _≡_ {A = ℕ} 0 1 = cc in omega arith
 
 not-nothing-block : (t : Spot) → block t ≡ nothing → ⊥
 not-nothing-block t e = let z : _≡_ {A = ℕ} 0 1 = cc in omega arith
@@ -83,7 +81,7 @@ module _ {w : ℕ} {b : List ℕ} {a k n : ℕ} {t : Taken} {c : List ℕ} (g : 
           is = λ L h.
               let m = chosen L h in
               let ec : c ≡ copied a (m .0 .at) (min k n) (drawn (shape w) (m .0 .layout) b) = rw (m .1) at (g .is L h .bytes) in
-              let ek : c ≡ copied a (m .0 .at) (min (capacity (shape w) (find (shape w) a L)) n) (drawn (shape w) (m .0 .layout) b) = ec ∙ ap (λ (y : ℕ). copied a (m .0 .at) (min y n) (drawn (shape w) (m .0 .layout) b)) (q .large L h) in
+              let ek : c ≡ copied a (m .0 .at) (min (shownOf (shape w) (find (shape w) a L)) n) (drawn (shape w) (m .0 .layout) b) = ec ∙ ap (λ (y : ℕ). copied a (m .0 .at) (min y n) (drawn (shape w) (m .0 .layout) b)) (q .shown L h) in
               let all : d ≡ movedBytes (shape w) b a n L (m .0) = f L h ∙ ap (λ (y : List ℕ). drawn (shape w) (without (shape w) a (m .0 .layout)) y) ek in
               ap (λ (y : ℕ). granted y d) (m .2) ∙ ap (λ (y : List ℕ). granted (m .0 .at) y) all ∙ ap (λ (o : Option Made). made (shape w) b o (movedBytes (shape w) b a n L)) (sym (m .1)) ∙ sym (by-live w b a n L (q .live L h) moving);
         }
@@ -97,54 +95,61 @@ module _ (w : ℕ) (b : List ℕ) (a n : ℕ) (L : Layout) (live : find (shape w
   remains c M s e = ap (λ (y : List ℕ). granted a y) e ∙ as-placed (some M) s
 
 -- an item
-module _ {w : ℕ} {b : List ℕ} {a q c : ℕ} (i : ItemLiveAt w b a q c) where
+module _ {w : ℕ} {b : List ℕ} {a q c k : ℕ} (i : ItemLiveAt w b a q c k) where
   is-live : (L : Layout) → Here (shape w) b L → find (shape w) a L ≡ nothing → ⊥
-  is-live L h e = not-nothing-item (offsetOf (shape w) q) c (sym (i .is L h) ∙ e)
+  is-live L h e = not-nothing-item (offsetOf (shape w) q) c k (sym (i .is L h) ∙ e)
 
   pub few : c < 4 * w
   few =
       let L = i .ready .sound .layout in
       let h = i .ready .sound .here in
-      item-found (shape w) (shape-good (i .ready .width)) a (offsetOf (shape w) q) c (start (shape w)) (L .blocks) (omega arith) (h .valid .allowed) (i .is L h) .class
+      item-found (shape w) (shape-good (i .ready .width)) a (offsetOf (shape w) q) c k (start (shape w)) (L .blocks) (omega arith) (h .valid .allowed) (i .is L h) .class
 
-  pub item-holds : Holding w b a (8 * c + 8)
-  item-holds = record { ready = i .ready; live = is-live; large = λ L h. ap (capacity (shape w)) (sym (i .is L h)) }
+  pub item-holds : Holding w b a (itemShown (shape w) c k)
+  item-holds = record { ready = i .ready; live = is-live; shown = λ L h. ap (shownOf (shape w)) (sym (i .is L h)) }
 
-  pub same-class : {n : ℕ} (k : ℕ) → k ≡ classOf n → k ≡ c → Bytes b → ByWay w staying b a n (to.To (record { 0 = a })) b
-  same-class {n} k e f bytes =
+  pub item-there : ItemLive w b q c
+  item-there =
+      let L = i .ready .sound .layout in
+      let h = i .ready .sound .here in
+      record { width = i .ready .width; layout = L; here = h; short = i .ready .short; low = i .low; address = a; asked = k; found = i .is L h }
+
+  pub same-class : {n : ℕ} → classOf n ≡ c → (d : List ℕ) → RenewedItem w b q c n d → ByWay w staying b a n (to.To (record { 0 = a })) d
+  same-class {n} e d r =
       record {
         is = λ L h.
-            let s : stays (shape w) n (find (shape w) a L) L ≡ some L = ap (λ (y : Found). stays (shape w) n y L) (i .is L h) ∙ item-stays (shape w) n (offsetOf (shape w) q) c L few (sym e ∙ f) in
-            remains w b a n L (is-live L h) b L s (drawn-same (shape w) b L h bytes);
+            let s : stays (shape w) n (find (shape w) a L) L ≡ some (renewed (shape w) n (offsetOf (shape w) q) L) =
+            ap (λ (y : Found). stays (shape w) n y L) (i .is L h) ∙ item-stays (shape w) n (offsetOf (shape w) q) c k L few e in
+            remains w b a n L (is-live L h) d (renewed (shape w) n (offsetOf (shape w) q) L) s (r .draws L a k h (i .is L h));
       }
 
-  pub other-class : {n : ℕ} (k : ℕ) → k ≡ classOf n → (k ≡ c → ⊥) → ByWay w staying b a n to.NoRoom b
-  other-class {n} k e f =
+  pub other-class : {n : ℕ} (j : ℕ) → j ≡ classOf n → (j ≡ c → ⊥) → ByWay w staying b a n to.NoRoom b
+  other-class {n} j e f =
       record {
         is = λ L h.
-            as-placed w b a n L (is-live L h) none (ap (λ (y : Found). stays (shape w) n y L) (i .is L h) ∙ item-moves (shape w) n (offsetOf (shape w) q) c L (λ z. f (e ∙ z)));
+            as-placed w b a n L (is-live L h) none (ap (λ (y : Found). stays (shape w) n y L) (i .is L h) ∙ item-moves (shape w) n (offsetOf (shape w) q) c k L (λ z. f (e ∙ z)));
       }
 
-  module _ {n : ℕ} {t : Taken} {d : List ℕ} (g : Carried w b a (8 * c + 8) n t d) (s : Asked w n) (x : Address) (e : t ≡ At x) where
-    again : (L : Layout) (h : Here (shape w) b L) → find (shape w) a (chosen g item-holds s x e L h .0 .layout) ≡ thing (offsetOf (shape w) q) c
+  module _ {n : ℕ} {t : Taken} {d : List ℕ} (g : Carried w b a (itemShown (shape w) c k) n t d) (s : Asked w n) (x : Address) (e : t ≡ At x) where
+    again : (L : Layout) (h : Here (shape w) b L) → (m : ℕ) × (find (shape w) a (chosen g item-holds s x e L h .0 .layout) ≡ thing (offsetOf (shape w) q) c m)
     again L h =
         let m = chosen g item-holds s x e L h in
-        let f = item-found (shape w) (shape-good (i .ready .width)) a (offsetOf (shape w) q) c (start (shape w)) (L .blocks) (omega arith) (h .valid .allowed) (i .is L h) in
+        let f = item-found (shape w) (shape-good (i .ready .width)) a (offsetOf (shape w) q) c k (start (shape w)) (L .blocks) (omega arith) (h .valid .allowed) (i .is L h) in
         let hc = carried-in g item-holds s x e L h in
-        item-again (shape w) (shape-good (i .ready .width)) (endOf (length d)) (m .0 .layout) (hc .valid) a (offsetOf (shape w) q) c few (f .at)
-        (rw (i .is L h) at (old-live b a (8 * c + 8) n item-holds s L h (m .0) (m .1)))
+        item-again (shape w) (shape-good (i .ready .width)) (endOf (length d)) (m .0 .layout) (hc .valid) a (offsetOf (shape w) q) c k few (f .at)
+        (rw (i .is L h) at (old-live b a (itemShown (shape w) c k) n item-holds s L h (m .0) (m .1)))
 
     pub item-still : length d ≡ length b → ItemLive w d q c
     item-still l =
         let L = i .ready .sound .layout in
         let h = i .ready .sound .here in
-        record { width = i .ready .width; layout = chosen g item-holds s x e L h .0 .layout; here = carried-in g item-holds s x e L h; short = rw l (i .ready .short); low = i .low; address = a; found = again L h }
+        record { width = i .ready .width; layout = chosen g item-holds s x e L h .0 .layout; here = carried-in g item-holds s x e L h; short = rw l (i .ready .short); low = i .low; address = a; asked = again L h .0; found = again L h .1 }
 
     pub item-gone : (d′ : List ℕ) → GaveItem w d q c d′ → ByWay w moving b a n (to.To x) d′
     item-gone d′ v =
         moved-to g item-holds s x e d′ (λ L h.
-        v .draws (chosen g item-holds s x e L h .0 .layout) a (carried-in g item-holds s x e L h) (again L h)
-        ∙ ap (λ (y : Found). drawn (shape w) (freed (shape w) y (chosen g item-holds s x e L h .0 .layout)) d) (sym (again L h)))
+        v .draws (chosen g item-holds s x e L h .0 .layout) a (again L h .0) (carried-in g item-holds s x e L h) (again L h .1)
+        ∙ ap (λ (y : Found). drawn (shape w) (freed (shape w) y (chosen g item-holds s x e L h .0 .layout)) d) (sym (again L h .1)))
 
 -- a variable block
 module _ {w : ℕ} {b : List ℕ} {a : ℕ} {x : VariableBlock} (i : BlockLiveAt w b a x) where
@@ -162,7 +167,7 @@ module _ {w : ℕ} {b : List ℕ} {a : ℕ} {x : VariableBlock} (i : BlockLiveAt
       record {
         ready = i .ready;
         live = block-is-live;
-        large = λ L h. let v = i .is L h in ap (λ (y : ℕ). y - 2 * w) (sym (v .1 .size)) ∙ ap (capacity (shape w)) (sym (v .1 .found));
+        shown = λ L h. let v = i .is L h in ap (λ (y : ℕ). y - 2 * w) (sym (v .1 .size)) ∙ ap (shownOf (shape w)) (sym (v .1 .found));
       }
 
   pub block-there : BlockLive w b x
@@ -204,16 +209,16 @@ module _ {w : ℕ} (b : List ℕ) (a : ℕ) (k : Ready w b) (x : Live) (f : (L :
   unfolding Finds
   nothing-live {v} {n} e = record { is = λ L h. sym (by-nowhere (shape w) b a n L v (found-as Nothing e L h)) }
 
-  pub item-at : (q : Position) (c : ℕ) → x ≡ Item q c → ItemLiveAt w b a (q .0) c
+  pub item-at : (q : Position) (c n : ℕ) → x ≡ Item q c n → ItemLiveAt w b a (q .0) c n
   unfolding Finds
-  item-at q c e = record { ready = k; low = found-as (Item q c) e (k .sound .layout) (k .sound .here) .0; is = λ L h. found-as (Item q c) e L h .1 }
+  item-at q c n e = record { ready = k; low = found-as (Item q c n) e (k .sound .layout) (k .sound .here) .0; is = λ L h. found-as (Item q c n) e L h .1 }
 
   pub block-at : (y : VariableBlock) → x ≡ Variable y → BlockLiveAt w b a y
   unfolding Finds
   block-at y e = record { ready = k; is = λ L h. found-as (Variable y) e L h }
 
 -- as it is
-pub keeps : {w : ℕ} (b : List ℕ) (a : Address) (n has : ℕ) (r : Resized) → Holds w b (a .0) has → r ≡ keptAs a has n → ByWay w keeping b (a .0) n r b
+pub keeps : {w : ℕ} (b : List ℕ) (a : Address) (n has : ℕ) (r : Resized) → Holds w (capacity (shape w)) b (a .0) has → r ≡ keptAs a has n → ByWay w keeping b (a .0) n r b
 keeps {w} b a n has r k e = record { is = λ L h. ap (λ (x : Resized). outcomeOf x b) e ∙ go L h (ℕ-discrete has 0) }
   where
     choose : (y : Bool) → outcomeOf (cond y (to.To a) to.NoRoom) b ≡ cond y (granted (a .0) b) (refused b noRoom)

@@ -7,17 +7,17 @@ use Rattle.words.specs.Copy.{copied}
 use Rattle.model.specs.Shape.{shape}
 use Rattle.model.specs.Layout.{Layout}
 use Rattle.model.specs.Sound.{Here}
-use Rattle.model.specs.Rules.{Made, nothing, find, allocate, capacity}
+use Rattle.model.specs.Rules.{Made, nothing, find, allocate, shownOf}
 use Rattle.model.specs.Calls.{drawn}
 use Rattle.engine.specs.declared.allocate.Taken.{Taken}
 use Rattle.engine.specs.Ready.{Ready}
 use Rattle.engine.specs.Allocate.{takenOf, layoutOf}
 
--- something that holds k bytes is live at a
+-- something is live at a of which k bytes are shown
 pub record Holding (w : ℕ) (b : List ℕ) (a k : ℕ) : Type 0 where
   pub ready : Ready w b
   pub live : (L : Layout) → Here (shape w) b L → find (shape w) a L ≡ nothing → ⊥
-  pub large : (L : Layout) → Here (shape w) b L → k ≡ capacity (shape w) (find (shape w) a L)
+  pub shown : (L : Layout) → Here (shape w) b L → k ≡ shownOf (shape w) (find (shape w) a L)
 
 -- the bytes once an allocation gave room for n, and the smaller of k and n bytes were copied there
 abbrev pub carriedBytes : ℕ → List ℕ → ℕ → ℕ → ℕ → Option Made → List ℕ

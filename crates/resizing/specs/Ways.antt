@@ -17,11 +17,11 @@ use Rattle.resizing.specs.declared.resize.Resized.the-variants.{To, NotL
 use Rattle.find.specs.Find.{BlockFound}
 use Rattle.engine.specs.Ready.{Ready}
 
--- the item of class c with its header at q, and the variable block x, are live at a
-pub record ItemLiveAt (w : ℕ) (b : List ℕ) (a q c : ℕ) : Type 0 where
+-- the item of class c with its header at q, for which k bytes were asked, and the variable block x, are live at a
+pub record ItemLiveAt (w : ℕ) (b : List ℕ) (a q c k : ℕ) : Type 0 where
   pub ready : Ready w b
   pub low : index (shape w) ≤ q
-  pub is : (L : Layout) → Here (shape w) b L → find (shape w) a L ≡ thing (offsetOf (shape w) q) c
+  pub is : (L : Layout) → Here (shape w) b L → find (shape w) a L ≡ thing (offsetOf (shape w) q) c k
 
 pub record BlockLiveAt (w : ℕ) (b : List ℕ) (a : ℕ) (x : VariableBlock) : Type 0 where
   pub ready : Ready w b

@@ -7,17 +7,19 @@ use find::VariableBlock;
 use find::find;
 use holding::capacity;
 use items::give;
+use items::renew;
 use links::back_at;
 use model::Address;
 use model::Position;
 use model::block_capacity;
 use model::class_of;
-use model::item_capacity;
+use model::item_shown;
 use model::largest_item;
 use releasing::release;
 use reshaping::reshape;
 use words::word;
 ghost use mathlib.Core.Path.{_≡_};
+ghost use Prim.Native.Nat.{ℕ};
 ghost use Rattle.model.specs.Calls.{staying, moving, keeping};
 ghost use Rattle.engine.specs.Allocate.{Asked};
 ghost use Rattle.engine.specs.Ready.{Ready};
@@ -30,16 +32,17 @@ pub enum Resized {
     NoRoom,
 }
 
-// The item of class c with its header at q, where it stands: it can stay in its own class only.
-fn stay_item(w: usize, h: &[u8], a: Address, q: Position, c: usize, n: usize) -> Resized
-    requires { ⌜ ItemLiveAt w (now h) (a .0) (q .0) c ⌝ }
+// The item of class c with its header at q, where it stands: it can stay in its own class only, and is for n bytes then.
+fn stay_item(w: usize, h: &mut [u8], a: Address, q: Position, c: usize, n: usize) -> Resized
+    requires { ⌜ ((k : ℕ) × ItemLiveAt w (now h) (a .0) (q .0) c k) ⌝ }
     requires { ⌜ Asked w n ⌝ }
-    ensures { λ r. ⌜ ByWay w staying (now (h .entry)) (a .0) n r (now (h .entry)) ⌝ }
+    ensures { λ r. ⌜ ByWay w staying (now (h .entry)) (a .0) n r (now (h .exit)) ⌝ }
 {
-    if class_of(n) == c {
-        return Resized::To(a);
+    if class_of(n) != c {
+        return Resized::NoRoom;
     }
-    Resized::NoRoom
+    renew(w, h, q, c, n);
+    Resized::To(a)
 }
 
 // The variable block x, where it stands.
@@ -66,18 +69,26 @@ pub fn stay(w: usize, h: &mut [u8], a: Address, n: usize) -> Resized
     let x = find(w, h, a);
     match x {
         Live::Nothing => Resized::NotLive,
-        Live::Item(q, c) => stay_item(w, h, a, q, c, n),
+        Live::Item(q, c, _) => stay_item(w, h, a, q, c, n),
         Live::Variable(b) => stay_block(w, h, a, b, n),
     }
 }
 
-// The item of class c with its header at q, by a move: the new one is taken first, so it is another even in the same class.
-fn move_item(w: usize, h: &mut [u8], a: Address, q: Position, c: usize, n: usize) -> Resized
-    requires { ⌜ ItemLiveAt w (now h) (a .0) (q .0) c ⌝ }
+// The item of class c with its header at q, for which k bytes were asked, by a move: the new one is taken first, so it is another even in the same class.
+fn move_item(
+    w: usize,
+    h: &mut [u8],
+    a: Address,
+    q: Position,
+    c: usize,
+    k: usize,
+    n: usize,
+) -> Resized
+    requires { ⌜ ItemLiveAt w (now h) (a .0) (q .0) c k ⌝ }
     requires { ⌜ Asked w n ⌝ }
     ensures { λ r. ⌜ ByWay w moving (now (h .entry)) (a .0) n r (now (h .exit)) ⌝ }
 {
-    let t = carry(w, h, a, item_capacity(w, c), n);
+    let t = carry(w, h, a, item_shown(w, c, k), n);
     match t {
         Taken::NoRoom => Resized::NoRoom,
         Taken::At(new) => {
@@ -114,7 +125,7 @@ pub fn relocate(w: usize, h: &mut [u8], a: Address, n: usize) -> Resized
     let x = find(w, h, a);
     match x {
         Live::Nothing => Resized::NotLive,
-        Live::Item(q, c) => move_item(w, h, a, q, c, n),
+        Live::Item(q, c, k) => move_item(w, h, a, q, c, k, n),
         Live::Variable(b) => move_block(w, h, a, b, n),
     }
 }

@@ -3,13 +3,16 @@ use crate::text::write;
 use crate::text::write_number;
 use heap::WORD;
 use model::Address;
+use model::HELD;
 use model::Position;
 use model::address_of;
+use model::asked_in;
 use model::block_capacity;
 use model::end_of;
 use model::first_item_at;
-use model::held_header;
+use model::flags_in;
 use model::item_capacity;
+use model::item_shown;
 use model::item_size;
 use model::items_in_page;
 use model::start;
@@ -24,9 +27,10 @@ ghost use Rattle.model.specs.Sound.{Sound};
 ghost use Rattle.reading.specs.Stepping.{BlockRead};
 
 // A payload's line.
-fn write_payload(a: Address, capacity: usize) {
+fn write_payload(a: Address, capacity: usize, shown: usize) {
     write_number(b"", a.0 as u64);
     write_number(b" ", capacity as u64);
+    write_number(b" ", shown as u64);
     write(b"\n");
 }
 
@@ -34,8 +38,10 @@ fn write_payload(a: Address, capacity: usize) {
 fn write_item(h: &[u8], q: Position, c: usize)
     requires { ⌜ (c < wide .classes) × (q .0 + wide .word ≤ length (now h)) ⌝ }
 {
-    if word(WORD, h, q.0) == held_header(c) {
-        write_payload(address_of(WORD, q), item_capacity(WORD, c));
+    let x = word(WORD, h, q.0);
+    if flags_in(x) == HELD {
+        let shown = item_shown(WORD, c, asked_in(x));
+        write_payload(address_of(WORD, q), item_capacity(WORD, c), shown);
     }
 }
 
@@ -60,7 +66,10 @@ fn write_held(h: &[u8], b: MetBlock)
     let p = b.position;
     let kind = b.kind;
     match kind {
-        Kind::Variable => write_payload(address_of(WORD, p), block_capacity(WORD, b.size)),
+        Kind::Variable => {
+            let capacity = block_capacity(WORD, b.size);
+            write_payload(address_of(WORD, p), capacity, capacity);
+        }
         Kind::Page { class } => write_items(h, first_item_at(WORD, p), class),
         _ => {}
     }
@@ -70,7 +79,7 @@ fn write_held(h: &[u8], b: MetBlock)
 pub fn write_payloads(h: &[u8])
     requires { ⌜ Sound wide (now h) ⌝ }
 {
-    write(b"\nlive payloads: address, capacity\n");
+    write(b"\nlive payloads: address, capacity, shown\n");
     let end = end_of(h.len());
     let mut p = start(WORD);
     while p.0 < end.0 {

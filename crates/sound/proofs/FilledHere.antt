@@ -31,7 +31,7 @@ module _ {w : ℕ} (wd : Width w) (b : List ℕ) (ls : List (List ℕ)) where
   slots-show c p (idle ∷ ss) h s k =
       let e : index (shape w) + (p - index (shape w)) ≡ p = omega arith in
       (ap (λ (x : ℕ). wordAt w b x) (sym e) ∙ k (p - index (shape w)) (rw (eq-eqb (p - index (shape w)) (p - index (shape w)) refl) (omega arith)), slots-show c (p + itemSize (shape w) c) ss (omega arith) (s .1) (λ o l. k o (omega arith)))
-  slots-show c p (held ∷ ss) h s k = (s .0, slots-show c (p + itemSize (shape w) c) ss (omega arith) (s .1) k)
+  slots-show c p (held n ∷ ss) h s k = (s .0, slots-show c (p + itemSize (shape w) c) ss (omega arith) (s .1) k)
 
   blocks-show : (p prev : ℕ) (bs : List Block) → index (shape w) ≤ p → AllAllowed (shape w) bs → Reads w b p prev bs → ((c : ℕ) → c < shape w .classes → Named c (idleItems (shape w) c p bs)) → Shows w b (blockWords (shape w) ls p prev 0 bs)
   unfolding Reads useKind Headers blockWords own useWords useSize sizeOf idleItems idleIn AllAllowed Allowed AllowedUse Shows

@@ -31,7 +31,7 @@ module _ {w : ℕ} (wd : Width w) (b : List ℕ) (ls : List (List ℕ)) (aligned
   unfolding slotWords Shows header Slots
   slots-of c p [] h s = tt
   slots-of c p (idle ∷ ss) h s = (rw (s .0) (idle-low wd (nextOf (p - index (shape w)) (getD ls c [])) c (aligned c (p - index (shape w)) h) h), slots-of c (p + itemSize (shape w) c) ss h (s .1))
-  slots-of c p (held ∷ ss) h s = (s .0, slots-of c (p + itemSize (shape w) c) ss h (s .1))
+  slots-of c p (held n ∷ ss) h s = (s .0, slots-of c (p + itemSize (shape w) c) ss h (s .1))
 
   reads-of : (p prev : ℕ) (bs : List Block) → AllAllowed (shape w) bs → Shows w b (blockWords (shape w) ls p prev 0 bs) → Reads w b p prev bs
   unfolding blockWords own sizeOf useSize Reads useKind Headers AllAllowed Allowed AllowedUse useWords Shows

@@ -19,7 +19,7 @@ module _ {w : ℕ} (wd : Width w) where
   pub slots-header : (b : List ℕ) (c o p : ℕ) (ss : List Slot) → index (shape w) ≤ p → Slots w b c p ss → 1 ≤ times o (idleSlots (shape w) c p ss) → classAndFlags (shape w) (wordAt w b (itemAt (shape w) o)) ≡ freeMark c
   unfolding Slots idleSlots times
   slots-header b c o p [] h s k = absurd (omega arith)
-  slots-header b c o p (held ∷ ss) h s k = slots-header b c o (p + itemSize (shape w) c) ss (omega arith) (s .1) k
+  slots-header b c o p (held n ∷ ss) h s k = slots-header b c o (p + itemSize (shape w) c) ss (omega arith) (s .1) k
   slots-header b c o p (idle ∷ ss) h s k = go (ℕ-discrete o (p - index (shape w))) (slots-header b c o (p + itemSize (shape w) c) ss (omega arith) (s .1))
     where
       go : Dec (o ≡ p - index (shape w)) → (1 ≤ times o (idleSlots (shape w) c (p + itemSize (shape w) c) ss) → classAndFlags (shape w) (wordAt w b (itemAt (shape w) o)) ≡ freeMark c) → classAndFlags (shape w) (wordAt w b (itemAt (shape w) o)) ≡ freeMark c

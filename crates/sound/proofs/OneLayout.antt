@@ -10,6 +10,7 @@ use Rattle.model.specs.Parts.{tagOf, firstItemAt}
 use Rattle.model.specs.Layout.{Slot, idle, held, Use, variable, page, Block, free, used, useSize, sizeOf, ends}
 use Rattle.model.specs.Sound.{AllowedUse, Allowed, AllAllowed}
 use Rattle.model.specs.Promises.{OneLayout}
+use Rattle.model.proofs.Sizes.{flags-idle}
 use Rattle.model.proofs.blocks.Blocks.{le-ends}
 use Rattle.words.specs.Word.{wordAt}
 use Rattle.marking.specs.Uses.{Slots, useKind, Headers}
@@ -18,7 +19,6 @@ use Rattle.marking.proofs.PageLaws.{page-class}
 use Rattle.walking.proofs.Walks.{use-size, use-kind}
 use Rattle.visiting.proofs.Chained.{same-chains}
 use Rattle.sound.proofs.HereFilled.{here-reads, here-chains}
-use Rattle.marking.proofs.Places.{not-both}
 
 module _ {w : ℕ} (wd : Width w) where
   slots-one : (b : List ℕ) (c p : ℕ) (ss ts : List Slot) → length ss ≡ length ts → Slots w b c p ss → Slots w b c p ts → ss ≡ ts
@@ -27,9 +27,10 @@ module _ {w : ℕ} (wd : Width w) where
   slots-one b c p [] (t ∷ ts) e h k = absurd (omega arith)
   slots-one b c p (s ∷ ss) [] e h k = absurd (omega arith)
   slots-one b c p (idle ∷ ss) (idle ∷ ts) e h k = ap (λ (x : List Slot). idle ∷ x) (slots-one b c (p + itemSize (shape w) c) ss ts (omega arith) (h .1) (k .1))
-  slots-one b c p (held ∷ ss) (held ∷ ts) e h k = ap (λ (x : List Slot). held ∷ x) (slots-one b c (p + itemSize (shape w) c) ss ts (omega arith) (h .1) (k .1))
-  slots-one b c p (idle ∷ ss) (held ∷ ts) e h k = absurd (not-both wd (wordAt w b p) c (h .0) (k .0))
-  slots-one b c p (held ∷ ss) (idle ∷ ts) e h k = absurd (not-both wd (wordAt w b p) c (k .0) (h .0))
+  slots-one b c p (held n ∷ ss) (held m ∷ ts) e h k =
+      ap₂ (λ (x : ℕ) (xs : List Slot). held x ∷ xs) (omega (arith, h .0, k .0)) (slots-one b c (p + itemSize (shape w) c) ss ts (omega arith) (h .1) (k .1))
+  slots-one b c p (idle ∷ ss) (held m ∷ ts) e h k = absurd (omega (arith, flags-idle wd (wordAt w b p) c (h .0), k .0))
+  slots-one b c p (held n ∷ ss) (idle ∷ ts) e h k = absurd (omega (arith, flags-idle wd (wordAt w b p) c (k .0), h .0))
 
   pages-one : (b : List ℕ) (p c k j : ℕ) (ss ts : List Slot) → AllowedUse (shape w) (page c k ss) → AllowedUse (shape w) (page c j ts) → useSize (shape w) (page c k ss) ≡ useSize (shape w) (page c j ts) → Slots w b c (firstItemAt (shape w) p) ss → Slots w b c (firstItemAt (shape w) p) ts → page c k ss ≡ page c j ts
   unfolding AllowedUse useSize

@@ -54,14 +54,17 @@ position-of-requires c κs = search needs
 word-requires-2 : tie.Need-word-requires-2
 word-requires-2 c κs = search needs
 
-held-header-requires : tie.Need-held-header-requires
-held-header-requires c κs = search needs
+flags-in-requires : tie.Need-flags-in-requires
+flags-in-requires c κs = search needs
 
 returns-4 : tie.Need-returns-4
-returns-4 c = λ L h. page-idle (c .before .before .before .before .before .before .before .before .before .before .before .before .before .before .before .before .before .before .pre) L h _ _ _ _ (c .before .before .before .before .before .before .before .before .before .before .before .before .before .before .before .before .before .before .args .a .0 - c .before .before .before .before .before .before .before .before .before .before .before .before .before .before .before .address-of .result .0) (rw (c .before .before .before .before .before .before .before .before .before .before .before .before .before .before .before .before .first-item-at .ensures) at (c .before .before .before .before .before .before .before .before .before .before .before .word .ensures)) (c .before .before .before .before .before .before .before .before .before .before .class-in .ensures .0) (c .before .before .before .before .before .before .before .before .before .item-size .ensures) (c .before .before .before .before .before .items-in-page .ensures) (omega (arith, c .before .before .before .before .before .before .before .before .before .before .before .before .before .before .before .address-of .ensures)) (omega (arith, c .before .before .before .before .before .before .before .before .before .before .before .before .before .before .before .address-of .ensures)) (omega arith) (omega arith) _ _ (c .before .before .before .position-of .ensures) (c .before .before .word2 .ensures) (λ z. c .if4 .taken (z ∙ sym (c .before .held-header .ensures)))
+returns-4 c = λ L h. page-idle (c .before .before .before .before .before .before .before .before .before .before .before .before .before .before .before .before .before .before .pre) L h _ _ _ _ (c .before .before .before .before .before .before .before .before .before .before .before .before .before .before .before .before .before .before .args .a .0 - c .before .before .before .before .before .before .before .before .before .before .before .before .before .before .before .address-of .result .0) (rw (c .before .before .before .before .before .before .before .before .before .before .before .before .before .before .before .before .first-item-at .ensures) at (c .before .before .before .before .before .before .before .before .before .before .before .word .ensures)) (c .before .before .before .before .before .before .before .before .before .before .class-in .ensures .0) (c .before .before .before .before .before .before .before .before .before .item-size .ensures) (c .before .before .before .before .before .items-in-page .ensures) (omega (arith, c .before .before .before .before .before .before .before .before .before .before .before .before .before .before .before .address-of .ensures)) (omega (arith, c .before .before .before .before .before .before .before .before .before .before .before .before .before .before .before .address-of .ensures)) (omega arith) (omega arith) _ _ (c .before .before .before .position-of .ensures) (c .before .before .word2 .ensures) (λ z. c .if4 .taken (c .before .flags-in .ensures ∙ z))
+
+asked-in-requires : tie.Need-asked-in-requires
+asked-in-requires c κs = search needs
 
 returns-5 : tie.Need-returns-5
-returns-5 c = λ L h. page-held (c .before .before .before .before .before .before .before .before .before .before .before .before .before .before .before .before .before .before .pre) L h _ _ _ _ (c .before .before .before .before .before .before .before .before .before .before .before .before .before .before .before .before .before .before .args .a .0 - c .before .before .before .before .before .before .before .before .before .before .before .before .before .before .before .address-of .result .0) (rw (c .before .before .before .before .before .before .before .before .before .before .before .before .before .before .before .before .first-item-at .ensures) at (c .before .before .before .before .before .before .before .before .before .before .before .word .ensures)) (c .before .before .before .before .before .before .before .before .before .before .class-in .ensures .0) (c .before .before .before .before .before .before .before .before .before .item-size .ensures) (c .before .before .before .before .before .items-in-page .ensures) (omega (arith, c .before .before .before .before .before .before .before .before .before .before .before .before .before .before .before .address-of .ensures)) (omega (arith, c .before .before .before .before .before .before .before .before .before .before .before .before .before .before .before .address-of .ensures)) (omega arith) (omega arith) _ _ (c .before .before .before .position-of .ensures) (c .before .before .word2 .ensures) (c .if4 .left ∙ c .before .held-header .ensures)
+returns-5 c = λ L h. page-held (c .before .before .before .before .before .before .before .before .before .before .before .before .before .before .before .before .before .before .before .pre) L h _ _ _ _ (c .before .before .before .before .before .before .before .before .before .before .before .before .before .before .before .before .before .before .before .args .a .0 - c .before .before .before .before .before .before .before .before .before .before .before .before .before .before .before .before .address-of .result .0) (rw (c .before .before .before .before .before .before .before .before .before .before .before .before .before .before .before .before .before .first-item-at .ensures) at (c .before .before .before .before .before .before .before .before .before .before .before .before .word .ensures)) (c .before .before .before .before .before .before .before .before .before .before .before .class-in .ensures .0) (c .before .before .before .before .before .before .before .before .before .before .item-size .ensures) (c .before .before .before .before .before .before .items-in-page .ensures) (omega (arith, c .before .before .before .before .before .before .before .before .before .before .before .before .before .before .before .before .address-of .ensures)) (omega (arith, c .before .before .before .before .before .before .before .before .before .before .before .before .before .before .before .before .address-of .ensures)) (omega arith) (omega arith) _ _ (c .before .before .before .before .position-of .ensures) (c .before .before .before .word2 .ensures) (sym (c .before .before .flags-in .ensures) ∙ c .before .if4 .left) _ (c .asked-in .ensures)
 
 pub in-page-spec : {M : Type 1} → statement M
 in-page-spec =
@@ -80,6 +83,7 @@ in-page-spec =
     returns-3
     position-of-requires
     word-requires-2
-    held-header-requires
+    flags-in-requires
     returns-4
+    asked-in-requires
     returns-5)

@@ -1,4 +1,4 @@
-use Rattle.holding.proofs.HoldingLaws.{holds-none, item-fits, holds-item, block-fits, holds-block}
+use Rattle.holding.proofs.HoldingLaws.{by-capacity, class-few, block-least, holds-none, holds-item, holds-block}
 use native.Mathlib.Omega.{arith}
 use borrow.Author.Needs.{needs}
 use Rattle.holding.proofs.capacity.Statement.{statement}
@@ -17,22 +17,22 @@ enum-known-x : tie.Need-enum-known-x
 enum-known-x c = search needs
 
 item-capacity-requires : tie.Need-item-capacity-requires
-item-capacity-requires c κs = omega (arith, c .before .before .before .before .before .pre .0, item-fits (c .before .before .before .before .before .pre .0) _ _ (c .before .before .before .before .before .pre .1) _ (c .before .before .before .find .ensures) _ _ (c .before .x .given .1))
+item-capacity-requires c κs = (c .before .before .before .before .before .pre .0, class-few (c .before .before .before .before .before .pre .0) _ _ (c .before .before .before .before .before .pre .1) _ (c .before .before .before .find .ensures) _ _ _ (c .before .x .given .1))
 
 enum-known-x-2 : tie.Need-enum-known-x-2
 enum-known-x-2 c = search needs
 
 block-capacity-requires : tie.Need-block-capacity-requires
-block-capacity-requires c κs = omega (arith, c .before .before .before .before .before .pre .0, block-fits (c .before .before .before .before .before .pre .0) _ _ (c .before .before .before .before .before .pre .1) _ (c .before .before .before .find .ensures) _ (c .before .x2 .given .1))
+block-capacity-requires c κs = omega (arith, c .before .before .before .before .before .pre .0, block-least (c .before .before .before .before .before .pre .0) _ _ (c .before .before .before .before .before .pre .1) _ (c .before .before .before .find .ensures) _ (c .before .x2 .given .1))
 
 returns : tie.Need-returns
-returns c = holds-none (c .before .before .before .before .pre .0) _ _ (c .before .before .before .before .pre .1) _ (c .before .before .find .ensures) (c .enum-told .given .1)
+returns c = holds-none (c .before .before .before .before .pre .0) _ _ (c .before .before .before .before .pre .1) _ (c .before .before .find .ensures) (by-capacity (c .before .before .before .before .pre .0)) (c .enum-told .given .1)
 
 returns-2 : tie.Need-returns-2
-returns-2 c = holds-item (c .before .before .before .before .before .before .pre .0) _ _ (c .before .before .before .before .before .before .pre .1) _ (c .before .before .before .before .find .ensures) _ _ (c .before .before .x .given .1) _ (omega arith)
+returns-2 c = holds-item (c .before .before .before .before .before .before .pre .0) _ _ (c .before .before .before .before .before .before .pre .1) _ (c .before .before .before .before .find .ensures) (by-capacity (c .before .before .before .before .before .before .pre .0)) _ _ _ (c .before .before .x .given .1) _ (omega arith)
 
 returns-3 : tie.Need-returns-3
-returns-3 c = holds-block (c .before .before .before .before .before .before .pre .0) _ _ (c .before .before .before .before .before .before .pre .1) _ (c .before .before .before .before .find .ensures) _ (c .before .before .x2 .given .1) _ (omega arith)
+returns-3 c = holds-block (c .before .before .before .before .before .before .pre .0) _ _ (c .before .before .before .before .before .before .pre .1) _ (c .before .before .before .before .find .ensures) (by-capacity (c .before .before .before .before .before .before .pre .0)) _ (c .before .before .x2 .given .1) _ (λ t e. omega (arith, e))
 
 pub capacity-spec : {M : Type 1} → statement M
 capacity-spec =

@@ -304,12 +304,12 @@ module _ (S : Shape) where
     Mends none = Unit {0}
     Mends (some m) = Mend S (m .layout) p s prev left before
 
-    from-list : (c : ℕ) (M : Layout) → Mend S M p s prev left before → (os : List ℕ) → Mends (fromList S c M os)
+    from-list : (c : ℕ) (M : Layout) → Mend S M p s prev left before → (os : List ℕ) → Mends (fromList S n c M os)
     unfolding Mends fromList
     from-list c M g [] = tt
-    from-list c M g (o ∷ os) = item-mends held (itemAt S o) M (popped S c o os M) refl p s prev left before g
+    from-list c M g (o ∷ os) = item-mends (held n) (itemAt S o) M (popped S n c o os M) refl p s prev left before g
 
-    from-page : (c : ℕ) (o : Option Spot) → fit (pageNeed S c) (L .blocks) ≡ o → Mends (fromPage S c L o)
+    from-page : (c : ℕ) (o : Option Spot) → fit (pageNeed S c) (L .blocks) ≡ o → Mends (fromPage S n c L o)
     unfolding Mends fromPage
     from-page c none e = tt
     from-page c (some t) e =
@@ -320,7 +320,7 @@ module _ (S : Shape) where
         (taken-mends L (paged S c t L) (t .pre) (t .post) (t .size) u (pageOf S c u) (d .blocks) (ap (λ (M : Layout). M .blocks) (paged-as S c (ends S (start S) (t .pre)) v d refl good)) (page-size S c u (k .enough)) (k .within) p s prev left before h b)
         (getD (paged S c t L .lists) c [])
 
-    an-item : (c : ℕ) (os : List ℕ) → Mends (anItem S c L os)
+    an-item : (c : ℕ) (os : List ℕ) → Mends (anItem S n c L os)
     unfolding anItem
     an-item c [] = from-page c (fit (pageNeed S c) (L .blocks)) refl
     an-item c (o ∷ os) = from-list c L (inl h) (o ∷ os)

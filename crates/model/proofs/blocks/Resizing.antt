@@ -11,7 +11,7 @@ use borrow.Author.Tests.{le-leb, lt-leb, lt-ltb, le-ltb, eq-eqb, ne-eqb}
 use Rattle.model.specs.Shape.{Shape, start, tags, leastFree, largestItem, leastVariable, classOf, needOf}
 use Rattle.model.specs.Layout.{variable, Block, free, used, Layout, useSize, sizeOf, ends}
 use Rattle.model.specs.Sound.{Allowed, AllowedUse, AllAllowed, Apart, idleIn, idleItems, Valid}
-use Rattle.model.specs.Rules.{Spot, block, thing, before, asVariable, cut, shrunk, grown, reshaped, stays}
+use Rattle.model.specs.Rules.{Spot, block, thing, before, asVariable, cut, shrunk, grown, reshaped, renewed, stays}
 use Rattle.model.proofs.blocks.Blocks.{allowed-left, allowed-right}
 use Rattle.model.proofs.blocks.Replace.{three}
 use Rattle.model.proofs.blocks.Valid.{apart-down, replaced-valid-at}
@@ -23,15 +23,15 @@ use Rattle.model.proofs.Sizes.{up-above, need-eight}
 
 module _ (S : Shape) where
   -- an item stays exactly where its class is the size's
-  pub item-stays : (n o c : ℕ) (L : Layout) → c < S .classes → classOf n ≡ c → stays S n (thing o c) L ≡ some L
+  pub item-stays : (n o c k : ℕ) (L : Layout) → c < S .classes → classOf n ≡ c → stays S n (thing o c k) L ≡ some (renewed S n o L)
   unfolding stays
-  item-stays n o c L l e = rw (le-leb n (largestItem S) (omega arith), eq-eqb (classOf n) c e) refl
+  item-stays n o c k L l e = rw (le-leb n (largestItem S) (omega arith), eq-eqb (classOf n) c e) refl
 
-  pub item-moves : (n o c : ℕ) (L : Layout) → (classOf n ≡ c → ⊥) → stays S n (thing o c) L ≡ none
+  pub item-moves : (n o c k : ℕ) (L : Layout) → (classOf n ≡ c → ⊥) → stays S n (thing o c k) L ≡ none
   unfolding stays
-  item-moves n o c L e = rw (ne-eqb (classOf n) c e) (go (leb n (largestItem S)))
+  item-moves n o c k L e = rw (ne-eqb (classOf n) c e) (go (leb n (largestItem S)))
     where
-      go : (y : Bool) → _≡_ {A = Option Layout} (cond (y && false) (some L) none) none
+      go : (y : Bool) → _≡_ {A = Option Layout} (cond (y && false) (some (renewed S n o L)) none) none
       go true = refl
       go false = refl
 

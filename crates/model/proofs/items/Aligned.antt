@@ -9,6 +9,7 @@ use borrow.Author.Tests.{eq-eqb, ne-eqb}
 use Rattle.words.specs.Word.{wordAt}
 use Rattle.words.specs.Width.{Width}
 use Rattle.model.specs.Shape.{shape, itemSize, addressOf, offsetOf, start}
+use Rattle.model.specs.Parts.{heldFlags, flagsIn, askedIn}
 use Rattle.model.specs.Picture.{Shows}
 use Rattle.model.specs.Layout.{Slot, idle, held, Layout, nextOf, header, slotWords}
 use Rattle.model.specs.Sound.{Valid}
@@ -16,6 +17,7 @@ use Rattle.model.specs.Rules.{thing, nothing, inSlots}
 use Rattle.model.proofs.Good.{shape-good}
 use Rattle.model.proofs.pictures.Drawn.{next-of}
 use Rattle.model.proofs.Sizes.{start-eight, class-idle, class-held, zero-even}
+use Rattle.model.proofs.items.Asked.{asked-in}
 use Rattle.model.proofs.items.Offsets.{items-off}
 use Rattle.model.proofs.walks.Finding.{slots-below}
 
@@ -30,12 +32,12 @@ module _ {w : ℕ} (wd : Width w) where
     pub class-read : (q : ℕ) (x : Slot) (ss : List Slot) → Shows w b (slotWords (shape w) c l q (x ∷ ss)) → wordAt w b q % (16 * w) / 4 ≡ c
     unfolding slotWords header Shows
     class-read q idle ss s = rw (s .0) (class-idle wd c (nextOf (offsetOf (shape w) q) l) few (aligned (offsetOf (shape w) q)))
-    class-read q held ss s = rw (s .0) (class-held wd c 0 few)
+    class-read q (held n) ss s = rw (s .0) (class-held wd c n few)
 
-    -- the item with index i is in use exactly where its header says so
+    -- the item with index i is in use exactly where its header says so, and then for the size that it says
     pub record SlotRead (a q : ℕ) (ss : List Slot) : Type 0 where
-      pub in-use : wordAt w b (a - w) ≡ 4 * c + 3 → inSlots (shape w) a c q ss ≡ thing (offsetOf (shape w) (a - w)) c
-      pub not-in-use : (wordAt w b (a - w) ≡ 4 * c + 3 → ⊥) → inSlots (shape w) a c q ss ≡ nothing
+      pub in-use : flagsIn (wordAt w b (a - w)) ≡ heldFlags → inSlots (shape w) a c q ss ≡ thing (offsetOf (shape w) (a - w)) c (askedIn (wordAt w b (a - w)))
+      pub not-in-use : (flagsIn (wordAt w b (a - w)) ≡ heldFlags → ⊥) → inSlots (shape w) a c q ss ≡ nothing
 
     pub slot-read : (a q i : ℕ) (ss : List Slot) → i < length ss → a ≡ q + i * itemSize (shape w) c + w → Shows w b (slotWords (shape w) c l q ss) → SlotRead a q ss
     unfolding slotWords header Shows inSlots
@@ -46,17 +48,18 @@ module _ {w : ℕ} (wd : Width w) where
           in-use = λ k. absurd (omega (arith, s .0, ap (λ (x : ℕ). wordAt w b x) z));
           not-in-use = λ k. slots-below (shape w) (shape-good wd) a c (q + itemSize (shape w) c) ss (omega arith);
         }
-    slot-read a q zero (held ∷ ss) h e s =
+    slot-read a q zero (held n ∷ ss) h e s =
         let z : a - w ≡ q = omega arith in
         let f : a ≡ addressOf (shape w) q = omega arith in
+        let g : askedIn (wordAt w b (a - w)) ≡ n = ap askedIn (ap (λ (x : ℕ). wordAt w b x) z ∙ s .0) ∙ asked-in c n (omega (arith, wd)) in
         record {
-          in-use = λ k. rw (eq-eqb a (addressOf (shape w) q) f) (ap (λ (x : ℕ). thing (offsetOf (shape w) x) c) (sym z));
-          not-in-use = λ k. absurd (k (ap (λ (x : ℕ). wordAt w b x) z ∙ s .0));
+          in-use = λ k. rw (eq-eqb a (addressOf (shape w) q) f, g) (ap (λ (x : ℕ). thing (offsetOf (shape w) x) c n) (sym z));
+          not-in-use = λ k. absurd (k (ap (λ (x : ℕ). flagsIn (wordAt w b x)) z ∙ ap flagsIn (s .0) ∙ omega arith));
         }
     slot-read a q (suc i) (idle ∷ ss) h e s =
         let r = slot-read a (q + itemSize (shape w) c) i ss (omega arith) (omega arith) (s .1) in
         record { in-use = r .in-use; not-in-use = r .not-in-use }
-    slot-read a q (suc i) (held ∷ ss) h e s =
+    slot-read a q (suc i) (held m ∷ ss) h e s =
         let r = slot-read a (q + itemSize (shape w) c) i ss (omega arith) (omega arith) (s .1) in
         let n = ne-eqb a (addressOf (shape w) q) (λ f. omega arith) in
         record { in-use = λ k. rw n (r .in-use k); not-in-use = λ k. rw n (r .not-in-use k) }
@@ -66,5 +69,5 @@ module _ {w : ℕ} (wd : Width w) where
   unfolding inSlots
   slots-none a c q [] h = refl
   slots-none a c q (idle ∷ ss) h = slots-none a c (q + itemSize (shape w) c) ss (λ i l e. h (suc i) (omega arith) (omega arith))
-  slots-none a c q (held ∷ ss) h =
+  slots-none a c q (held n ∷ ss) h =
       rw (ne-eqb a (addressOf (shape w) q) (λ e. h 0 (omega arith) (omega arith))) (slots-none a c (q + itemSize (shape w) c) ss (λ i l e. h (suc i) (omega arith) (omega arith)))

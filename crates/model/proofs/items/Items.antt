@@ -71,7 +71,7 @@ module _ (S : Shape) where
     header-away : (c p : ℕ) (x : Slot) → index S ≤ p → (q ≡ p → ⊥) → header S c (getD ls′ c []) p x ≡ header S c (getD ls c []) p x
     unfolding header
     header-away c p idle h n = ap (λ (y : ℕ). 16 * y + 4 * c + 1) (agree c (p - index S) (λ e. n (omega arith)))
-    header-away c p held h n = refl
+    header-away c p (held m) h n = refl
 
     slots-away : (c p : ℕ) (ss : List Slot) → index S ≤ p → (p ≤ q → q < p + length ss * itemSize S c → ⊥) → slotWords S c (getD ls′ c []) p (slotTo S s c q p ss) ≡ slotWords S c (getD ls c []) p ss
     unfolding slotWords slotTo

@@ -32,12 +32,12 @@ module _ {w : ℕ} (wd : Width w) where
       go : Dec (o ≡ p - (index (shape w))) → (1 ≤ times o (idleSlots (shape w) c (p + itemSize (shape w) c) ss) → Off w o (p + itemSize (shape w) c) (p + itemSize (shape w) c + length ss * itemSize (shape w) c)) → Off w o p (p + suc (length ss) * itemSize (shape w) c)
       go (yes e) r = record { low = omega arith; high = omega arith; even = rw e (offset-even wd p h m) }
       go (no e) r = let z = r (omega (arith, rw (ne-eqb o (p - (index (shape w))) e) at k)) in record { low = omega (arith, z .low); high = omega (arith, z .high); even = z .even }
-  slots-off c o p (held ∷ ss) h m k = let z = slots-off c o (p + itemSize (shape w) c) ss (omega arith) (item-even wd p c m) k in record { low = omega (arith, z .low); high = omega (arith, z .high); even = z .even }
+  slots-off c o p (held n ∷ ss) h m k = let z = slots-off c o (p + itemSize (shape w) c) ss (omega arith) (item-even wd p c m) k in record { low = omega (arith, z .low); high = omega (arith, z .high); even = z .even }
 
   slots-once : (c o p : ℕ) (ss : List Slot) → (index (shape w)) ≤ p → p % w ≡ 0 → times o (idleSlots (shape w) c p ss) ≤ 1
   unfolding idleSlots times
   slots-once c o p [] h m = omega arith
-  slots-once c o p (held ∷ ss) h m = slots-once c o (p + itemSize (shape w) c) ss (omega arith) (item-even wd p c m)
+  slots-once c o p (held n ∷ ss) h m = slots-once c o (p + itemSize (shape w) c) ss (omega arith) (item-even wd p c m)
   slots-once c o p (idle ∷ ss) h m = go (ℕ-discrete o (p - (index (shape w)))) (decLe 1 (times o (idleSlots (shape w) c (p + itemSize (shape w) c) ss))) (slots-once c o (p + itemSize (shape w) c) ss (omega arith) (item-even wd p c m))
     where
       go : Dec (o ≡ p - (index (shape w))) → Dec (1 ≤ times o (idleSlots (shape w) c (p + itemSize (shape w) c) ss)) → times o (idleSlots (shape w) c (p + itemSize (shape w) c) ss) ≤ 1 → cond (eqb o (p - (index (shape w)))) 1 0 + times o (idleSlots (shape w) c (p + itemSize (shape w) c) ss) ≤ 1

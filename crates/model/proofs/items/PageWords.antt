@@ -26,7 +26,7 @@ module _ (S : Shape) where
   unfolding slotWords header
   slots-agree c p l m [] h e = refl
   slots-agree c p l m (idle ∷ ss) h e = rw (e (offsetOf S p) (omega arith), slots-agree c (p + itemSize S c) l m ss (omega arith) (λ x k. e x (omega arith)))
-  slots-agree c p l m (held ∷ ss) h e = rw (slots-agree c (p + itemSize S c) l m ss (omega arith) (λ x k. e x (omega arith)))
+  slots-agree c p l m (held n ∷ ss) h e = rw (slots-agree c (p + itemSize S c) l m ss (omega arith) (λ x k. e x (omega arith)))
 
   pub items-linked : (c p n : ℕ) → index S ≤ p → slotWords S c (offsets c p n) p (replicate n idle) ≡ itemWords S c p n
   unfolding slotWords header idleSlots itemWords nextOf headOf

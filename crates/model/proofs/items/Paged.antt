@@ -1,5 +1,5 @@
 -- A page is made where it fits, on an empty list: the new layout is valid.
-use Prim.Native.Nat.{ℕ, _+_, _-_, _*_, _%_, _^_, _≤_, _<_}
+use Prim.Native.Nat.{ℕ, _+_, _-_, _%_, _≤_, _<_}
 use mathlib.Core.Path.{_≡_, refl, sym, ap, _∙_}
 use mathlib.Core.List.{List, [], _∷_, _++_}
 use native.Mathlib.Omega.{arith}
@@ -21,6 +21,7 @@ use Rattle.model.proofs.blocks.Spots.{split-layout, split-allowed}
 use Rattle.model.proofs.blocks.Taken.{parts, placed-parts, takes-of, takes-eight}
 use Rattle.model.specs.inner.Links.{takes}
 use Rattle.model.proofs.Good.{Good}
+use Rattle.model.proofs.items.Asked.{all-idle}
 
 module _ (S : Shape) where
   -- blocks in the middle are replaced, and each list gains the free items that they gain
@@ -137,7 +138,7 @@ module _ (S : Shape) where
         let eu = page-size c u (k .enough) in
         let e = takes-eight S (pageNeed S c) (t .size) eight (split-allowed S v s .1) in
         regained-valid (end) (L .lists) (set (L .lists) c (pageList c p)) (t .pre) (free (t .size) ∷ []) (parts S u (t .size) (pageOf c u)) (t .post) (split-layout S v s)
-        (parts-allowed (t .size) u (pageOf c u) eu (k .within) (cl, length-replicate (S .perPage c) idle, omega (arith, k .under (good .word)), omega (arith, k .enough)) (split-allowed S v s) (k .rest) e)
+        (parts-allowed (t .size) u (pageOf c u) eu (k .within) (cl, length-replicate (S .perPage c) idle, omega (arith, k .under (good .word)), omega (arith, k .enough), all-idle c (S .perPage c)) (split-allowed S v s) (k .rest) e)
         (parts-ends (t .size) u (pageOf c u) eu (k .within) (ends S (start S) (t .pre)))
         (λ d h. parts-apart (t .size) u (pageOf c u) eu (k .within) d (t .post) h)
         (length-set (L .lists) c (pageList c p))

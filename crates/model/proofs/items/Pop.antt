@@ -12,9 +12,11 @@ use Rattle.words.specs.Word.{put, Bytes}
 use Rattle.model.specs.Picture.{draw}
 use Rattle.model.specs.Shape.{Shape, start, index, tags, itemSize, endOf}
 use Rattle.model.specs.Layout.{Slot, idle, held, variable, page, Block, free, used, Layout, headOf, nextOf, useSize, sizeOf, ends, header, words}
-use Rattle.model.specs.Sound.{times, idleSlots, idleIn, idleItems, Valid, Here}
+use Rattle.model.specs.Parts.{heldHeader}
+use Rattle.model.specs.Sound.{times, Within, idleSlots, idleIn, idleItems, Valid, Here}
 use Rattle.model.proofs.blocks.Blocks.{le-ends}
 use Rattle.model.proofs.items.Items.{InSlots, InUse, InBlocks, slots-range, blocks-range}
+use Rattle.model.proofs.items.Asked.{held-fits}
 use Rattle.model.proofs.items.ItemLaws.{item-law, item-over}
 use Rattle.model.proofs.items.ItemValid.{items-this, changed-valid}
 use Rattle.model.proofs.pictures.Drawn.{times-append, drawn-here}
@@ -50,7 +52,7 @@ module _ (S : Shape) where
   slots-found : (c o p : ℕ) (ss : List Slot) → index S ≤ p → 1 ≤ times o (idleSlots S c p ss) → IdleIn c (index S + o) p ss
   unfolding idleSlots times slotTo InSlots
   slots-found c o p [] h k = absurd (omega arith)
-  slots-found c o p (held ∷ ss) h k =
+  slots-found c o p (held n ∷ ss) h k =
       let r = slots-found c o (p + itemSize S c) ss (omega arith) k in
       let z = slots-range S c (index S + o) (p + itemSize S c) ss (r .there) in
       record { there = inr (r .there); free-item = rw (ne-eqb (index S + o) p (λ e. omega (arith, z .0)), r .free-item) }
@@ -111,11 +113,11 @@ module _ (S : Shape) where
         let f = ap (λ (bs : List Block). times o (idleItems S c (start S) bs)) (sym (first-found .free-item)) ∙ items-this S o (index S + o) refl idle c c (start S) (L .blocks) (omega arith) (first-found .there) in
         omega (arith, rw (eq-eqb o o refl) at e, rw (eq-eqb c c refl) at f)
 
-    pub pop-valid : Valid S end (popped S c o os L)
+    pub pop-valid : (n : ℕ) → Within c (held n) → Valid S end (popped S n c o os L)
     unfolding times
-    pop-valid =
-        changed-valid S end L c (index S + o) o idle held os v cl refl (first-found .there) (first-found .free-item) first-once
-        (λ x n. sym (ap (λ (l : List ℕ). times x l) is ∙ rw (ne-eqb x o n) (omega arith)))
+    pop-valid n w =
+        changed-valid S end L c (index S + o) o idle (held n) os v cl w refl (first-found .there) (first-found .free-item) first-once
+        (λ x z. sym (ap (λ (l : List ℕ). times x l) is ∙ rw (ne-eqb x o z) (omega arith)))
 
   module _ (good : Good S) (b : List ℕ) (L : Layout) (h : Here S b L) (c o : ℕ) (os : List ℕ) (cl : c < S .classes) (is : getD (L .lists) c [] ≡ o ∷ os) (short : length b ≤ S .most) where
     pub counted : 1 ≤ times o (idleItems S c (start S) (L .blocks))
@@ -123,12 +125,6 @@ module _ (S : Shape) where
 
     pub found : IdleAt c (index S + o) (start S) (L .blocks)
     found = first-found (h .valid) cl is
-
-    pub popped-valid : Valid S (endOf (length b)) (popped S c o os L)
-    popped-valid = pop-valid (h .valid) cl is
-
-    pub popped-here : Here S (draw (S .word) (words S (endOf (length b)) (popped S c o os L)) b) (popped S c o os L)
-    popped-here = drawn-here S good b (popped S c o os L) (h .magic) popped-valid short
 
     agree : (d x : ℕ) → (x ≡ o → ⊥) → nextOf x (getD (set (L .lists) c os) d []) ≡ nextOf x (getD (L .lists) d [])
     unfolding nextOf
@@ -138,14 +134,22 @@ module _ (S : Shape) where
         go (no e) = ap (λ (l : List ℕ). nextOf x l) (getD-set-other (L .lists) c d os [] e)
         go (yes e) = rw e (ap (λ (l : List ℕ). nextOf x l) (getD-set-same (L .lists) c os [] (omega (arith, h .valid .classes))) ∙ sym (ap (λ (l : List ℕ). nextOf x l) is ∙ rw (ne-eqb x o n) refl))
 
-    pub pop-law : Bytes b → headOf os < 256 ^ S .word → 4 * c + 3 < 256 ^ S .word
-        → put (S .word) (put (S .word) b (index S + S .word * c) (headOf os)) (index S + o) (4 * c + 3) ≡ draw (S .word) (words S (endOf (length b)) (popped S c o os L)) b
-    unfolding header
-    pop-law bytes f g =
-        item-law S good (endOf (length b)) L (h .valid) c cl os (index S + o) o refl held agree (found .there) b (omega arith) bytes f g (omega arith) (h .shown)
+    -- it is taken for n bytes
+    module _ (n : ℕ) (fits : Within c (held n)) where
+      popped-valid : Valid S (endOf (length b)) (popped S n c o os L)
+      popped-valid = pop-valid (h .valid) cl is n fits
 
-    -- drawn over the layout before it, the layout with the item in use is drawn alone
-    pub popped-over : (a : List ℕ) → length a ≡ length b → Bytes a
-        → draw (S .word) (words S (endOf (length b)) (popped S c o os L)) (draw (S .word) (words S (endOf (length b)) L) a) ≡ draw (S .word) (words S (endOf (length b)) (popped S c o os L)) a
-    popped-over a e bytes =
-        item-over S good (endOf (length b)) L (h .valid) c cl os (index S + o) o refl held agree (found .there) a (omega arith) bytes (omega arith) popped-valid
+      pub popped-here : Here S (draw (S .word) (words S (endOf (length b)) (popped S n c o os L)) b) (popped S n c o os L)
+      popped-here = drawn-here S good b (popped S n c o os L) (h .magic) popped-valid short
+
+      pub pop-law : Bytes b → headOf os < 256 ^ S .word
+          → put (S .word) (put (S .word) b (index S + S .word * c) (headOf os)) (index S + o) (heldHeader c n) ≡ draw (S .word) (words S (endOf (length b)) (popped S n c o os L)) b
+      unfolding header
+      pop-law bytes f =
+          item-law S good (endOf (length b)) L (h .valid) c cl os (index S + o) o refl (held n) agree (found .there) b (omega arith) bytes f (held-fits S good c n cl fits) (omega arith) (h .shown)
+
+      -- drawn over the layout before it, the layout with the item in use is drawn alone
+      pub popped-over : (a : List ℕ) → length a ≡ length b → Bytes a
+          → draw (S .word) (words S (endOf (length b)) (popped S n c o os L)) (draw (S .word) (words S (endOf (length b)) L) a) ≡ draw (S .word) (words S (endOf (length b)) (popped S n c o os L)) a
+      popped-over a e bytes =
+          item-over S good (endOf (length b)) L (h .valid) c cl os (index S + o) o refl (held n) agree (found .there) a (omega arith) bytes (omega arith) popped-valid

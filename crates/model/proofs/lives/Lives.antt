@@ -75,7 +75,7 @@ module _ (S : Shape) where
 
     -- the payload of a variable block there
     abbrev pub placedPayload : Payload
-    placedPayload = record { address = addressOf S (spotAt S t); size = takes S need (t .size) - tags S }
+    placedPayload = record { address = addressOf S (spotAt S t); size = takes S need (t .size) - tags S; shown = takes S need (t .size) - tags S }
 
     live-placed : live S (placedIn S need L t) ≡ liveBefore t ++ (placedPayload ∷ liveBehind t)
     unfolding useLive useSize

@@ -10,10 +10,10 @@ use borrow.Author.Tests.{eq-eqb, ne-eqb}
 use Rattle.words.specs.Copy.{copied}
 use Rattle.words.proofs.WordLaws.{word-agree}
 use Rattle.words.proofs.CopyLaws.{length-copied, copied-out}
-use Rattle.model.specs.Shape.{Shape, start, tags, leastVariable, itemSize, itemCapacity, addressOf, itemAt, endOf}
+use Rattle.model.specs.Shape.{Shape, start, tags, leastVariable, itemSize, itemCapacity, itemShown, addressOf, itemAt, endOf}
 use Rattle.model.specs.Layout.{Slot, idle, held, variable, page, Block, free, used, Layout, useSize, words}
 use Rattle.model.specs.Sound.{Allowed, AllowedUse, AllAllowed, Valid, Here}
-use Rattle.model.specs.Rules.{Spot, Found, block, thing, nothing, behind, orElse, inSlots, findFrom, capacity}
+use Rattle.model.specs.Rules.{Spot, Found, block, thing, nothing, behind, orElse, inSlots, findFrom, capacity, shownOf}
 use Rattle.model.specs.Live.{_∈_, InTurn, Payload, slotsLive, useLive, liveFrom, live}
 use Rattle.model.proofs.Good.{Good}
 use Rattle.model.proofs.lives.Members.{in-left, in-right, in-either}
@@ -34,22 +34,22 @@ in-turn x y (z ∷ zs) (inr h) (inr k) n = ⊎-elim (λ i. inl (inr i)) (λ i. i
 module _ (S : Shape) where
   -- the payload of what is found at a
   abbrev pub payloadOf : ℕ → Found → Payload
-  payloadOf a f = record { address = a; size = capacity S f }
+  payloadOf a f = record { address = a; size = capacity S f; shown = shownOf S f }
 
   behind-live : (a : ℕ) (b : Block) (l : List Payload) (f : Found) → ((f ≡ nothing → ⊥) → payloadOf a f ∈ l) → (behind b f ≡ nothing → ⊥) → payloadOf a (behind b f) ∈ l
   behind-live a b l (block t) h n = h (λ e. let z : _≡_ {A = ℕ} 0 1 = cc in omega arith)
-  behind-live a b l (thing o c) h n = h (λ e. let z : _≡_ {A = ℕ} 0 1 = cc in omega arith)
+  behind-live a b l (thing o c m) h n = h (λ e. let z : _≡_ {A = ℕ} 0 1 = cc in omega arith)
   behind-live a b l nothing h n = absurd (n refl)
 
   slots-live : (a c p : ℕ) (ss : List Slot) → (inSlots S a c p ss ≡ nothing → ⊥) → payloadOf a (inSlots S a c p ss) ∈ slotsLive S c p ss
   unfolding inSlots slotsLive _∈_
   slots-live a c p [] n = absurd (n refl)
   slots-live a c p (idle ∷ ss) n = slots-live a c (p + itemSize S c) ss n
-  slots-live a c p (held ∷ ss) n = go (ℕ-discrete a (addressOf S p)) (slots-live a c (p + itemSize S c) ss) n
+  slots-live a c p (held m ∷ ss) n = go (ℕ-discrete a (addressOf S p)) (slots-live a c (p + itemSize S c) ss) n
     where
       go : Dec (a ≡ addressOf S p) → ((inSlots S a c (p + itemSize S c) ss ≡ nothing → ⊥) → payloadOf a (inSlots S a c (p + itemSize S c) ss) ∈ slotsLive S c (p + itemSize S c) ss)
-          → (inSlots S a c p (held ∷ ss) ≡ nothing → ⊥) → payloadOf a (inSlots S a c p (held ∷ ss)) ∈ slotsLive S c p (held ∷ ss)
-      go (yes e) r n = rw (eq-eqb a (addressOf S p) e) (inl (ap (λ (x : ℕ). record { address = x; size = itemCapacity S c }) e))
+          → (inSlots S a c p (held m ∷ ss) ≡ nothing → ⊥) → payloadOf a (inSlots S a c p (held m ∷ ss)) ∈ slotsLive S c p (held m ∷ ss)
+      go (yes e) r n = rw (eq-eqb a (addressOf S p) e) (inl (ap (λ (x : ℕ). record { address = x; size = itemCapacity S c; shown = itemShown S c m }) e))
       go (no e) r n = rw (ne-eqb a (addressOf S p) e) (inr (r (rw (ne-eqb a (addressOf S p) e) at n)))
 
   -- what is found is live
@@ -61,7 +61,7 @@ module _ (S : Shape) where
     where
       go : Dec (a ≡ addressOf S p) → ((findFrom S a (p + s) bs ≡ nothing → ⊥) → payloadOf a (findFrom S a (p + s) bs) ∈ liveFrom S (p + s) bs)
           → (findFrom S a p (used (variable s) ∷ bs) ≡ nothing → ⊥) → payloadOf a (findFrom S a p (used (variable s) ∷ bs)) ∈ liveFrom S p (used (variable s) ∷ bs)
-      go (yes e) r n = rw (eq-eqb a (addressOf S p) e) (inl (ap (λ (x : ℕ). record { address = x; size = s - tags S }) e))
+      go (yes e) r n = rw (eq-eqb a (addressOf S p) e) (inl (ap (λ (x : ℕ). record { address = x; size = s - tags S; shown = s - tags S }) e))
       go (no e) r n = rw (ne-eqb a (addressOf S p) e) (inr (behind-live a (used (variable s)) (liveFrom S (p + s) bs) (findFrom S a (p + s) bs) r (rw (ne-eqb a (addressOf S p) e) at n)))
   found-live a p (used (page c k ss) ∷ bs) n =
       go (inSlots S a c (p + S .word) ss) (slots-live a c (p + S .word) ss) (behind-live a (used (page c k ss)) (liveFrom S (p + useSize S (page c k ss)) bs) (findFrom S a (p + useSize S (page c k ss)) bs) (found-live a (p + useSize S (page c k ss)) bs)) n
@@ -71,28 +71,29 @@ module _ (S : Shape) where
           → (orElse f (behind (used (page c k ss)) (findFrom S a (p + useSize S (page c k ss)) bs)) ≡ nothing → ⊥)
           → payloadOf a (orElse f (behind (used (page c k ss)) (findFrom S a (p + useSize S (page c k ss)) bs))) ∈ (slotsLive S c (p + S .word) ss ++ liveFrom S (p + useSize S (page c k ss)) bs)
       go (block t) h r n = in-left (payloadOf a (block t)) (slotsLive S c (p + S .word) ss) (liveFrom S (p + useSize S (page c k ss)) bs) (h (λ e. let z : _≡_ {A = ℕ} 0 1 = cc in omega arith))
-      go (thing o d) h r n = in-left (payloadOf a (thing o d)) (slotsLive S c (p + S .word) ss) (liveFrom S (p + useSize S (page c k ss)) bs) (h (λ e. let z : _≡_ {A = ℕ} 0 1 = cc in omega arith))
+      go (thing o d m) h r n = in-left (payloadOf a (thing o d m)) (slotsLive S c (p + S .word) ss) (liveFrom S (p + useSize S (page c k ss)) bs) (h (λ e. let z : _≡_ {A = ℕ} 0 1 = cc in omega arith))
       go nothing h r n =
           in-right (payloadOf a (behind (used (page c k ss)) (findFrom S a (p + useSize S (page c k ss)) bs))) (slotsLive S c (p + S .word) ss) (liveFrom S (p + useSize S (page c k ss)) bs) (r n)
 
-  -- what is live is found, with its capacity
+  -- what is live is found, with its capacity and with what is shown of it
   pub record Shown (x : Payload) (f : Found) : Type 0 where
     pub there : f ≡ nothing → ⊥
     pub large : capacity S f ≡ x .size
+    pub shown : shownOf S f ≡ x .shown
 
   behind-shown : (x : Payload) (b : Block) (f : Found) → Shown x f → Shown x (behind b f)
-  behind-shown x b (block t) s = record { there = λ e. let z : _≡_ {A = ℕ} 0 1 = cc in omega arith; large = s .large }
-  behind-shown x b (thing o c) s = record { there = λ e. let z : _≡_ {A = ℕ} 0 1 = cc in omega arith; large = s .large }
+  behind-shown x b (block t) s = record { there = λ e. let z : _≡_ {A = ℕ} 0 1 = cc in omega arith; large = s .large; shown = s .shown }
+  behind-shown x b (thing o c n) s = record { there = λ e. let z : _≡_ {A = ℕ} 0 1 = cc in omega arith; large = s .large; shown = s .shown }
   behind-shown x b nothing s = absurd (s .there refl)
 
   slots-shown : (x : Payload) (c p : ℕ) (ss : List Slot) → Good S → x ∈ slotsLive S c p ss → Shown x (inSlots S (x .address) c p ss)
   unfolding inSlots slotsLive _∈_
   slots-shown x c p [] good h = absurd h
   slots-shown x c p (idle ∷ ss) good h = slots-shown x c (p + itemSize S c) ss good h
-  slots-shown x c p (held ∷ ss) good (inl e) =
+  slots-shown x c p (held n ∷ ss) good (inl e) =
       rw (eq-eqb (x .address) (addressOf S p) (ap (λ (y : Payload). y .address) e))
-      (record { there = λ f. let z : _≡_ {A = ℕ} 0 1 = cc in omega arith; large = sym (ap (λ (y : Payload). y .size) e) })
-  slots-shown x c p (held ∷ ss) good (inr h) =
+      (record { there = λ f. let z : _≡_ {A = ℕ} 0 1 = cc in omega arith; large = sym (ap (λ (y : Payload). y .size) e); shown = sym (ap (λ (y : Payload). y .shown) e) })
+  slots-shown x c p (held n ∷ ss) good (inr h) =
       let r = slots-within S c (p + itemSize S c) ss x h in
       rw (ne-eqb (x .address) (addressOf S p) (λ e. omega (arith, r .0))) (slots-shown x c (p + itemSize S c) ss good h)
 
@@ -102,7 +103,7 @@ module _ (S : Shape) where
   live-found x p (free s ∷ bs) good a h = behind-shown x (free s) (findFrom S (x .address) (p + s) bs) (live-found x (p + s) bs good (a .1) h)
   live-found x p (used (variable s) ∷ bs) good a (inl e) =
       rw (eq-eqb (x .address) (addressOf S p) (ap (λ (y : Payload). y .address) e))
-      (record { there = λ f. let z : _≡_ {A = ℕ} 0 1 = cc in omega arith; large = sym (ap (λ (y : Payload). y .size) e) })
+      (record { there = λ f. let z : _≡_ {A = ℕ} 0 1 = cc in omega arith; large = sym (ap (λ (y : Payload). y .size) e); shown = sym (ap (λ (y : Payload). y .shown) e) })
   live-found x p (used (variable s) ∷ bs) good a (inr h) =
       let r = live-within S (p + s) bs (a .1) x h in
       rw (ne-eqb (x .address) (addressOf S p) (λ e. omega (arith, r .0, a .0 .0))) (behind-shown x (used (variable s)) (findFrom S (x .address) (p + s) bs) (live-found x (p + s) bs good (a .1) h))
@@ -115,8 +116,8 @@ module _ (S : Shape) where
       (in-either x (slotsLive S c (p + S .word) ss) (liveFrom S (p + useSize S (page c k ss)) bs) h)
     where
       inside : (f : Found) → Shown x f → Shown x (orElse f (behind (used (page c k ss)) (findFrom S (x .address) (p + useSize S (page c k ss)) bs)))
-      inside (block t) s = record { there = λ f. let z : _≡_ {A = ℕ} 0 1 = cc in omega arith; large = s .large }
-      inside (thing o d) s = record { there = λ f. let z : _≡_ {A = ℕ} 0 1 = cc in omega arith; large = s .large }
+      inside (block t) s = record { there = λ f. let z : _≡_ {A = ℕ} 0 1 = cc in omega arith; large = s .large; shown = s .shown }
+      inside (thing o d n) s = record { there = λ f. let z : _≡_ {A = ℕ} 0 1 = cc in omega arith; large = s .large; shown = s .shown }
       inside nothing s = absurd (s .there refl)
 
   -- two live payloads with different addresses are apart
@@ -152,24 +153,25 @@ module _ (S : Shape) where
         let all : AllAllowed S (t .pre ++ ((used (variable (t .size)) ∷ []) ++ t .post)) = subst (λ (l : List Block). AllAllowed S l) (f .blocks) (v .allowed) in
         allowed-right S (t .pre) ((used (variable (t .size)) ∷ []) ++ t .post) all .0 .0
 
-    pub item-again : (a o c : ℕ) → c < S .classes → a ≡ addressOf S (itemAt S o) → record { address = a; size = itemCapacity S c } ∈ live S L → findFrom S a (start S) (L .blocks) ≡ thing o c
-    item-again a o c few at h = go (findFrom S a (start S) (L .blocks)) refl (live-found (record { address = a; size = itemCapacity S c }) (start S) (L .blocks) good (v .allowed) h)
+    -- the item is found with a size of which as much is shown
+    pub item-again : (a o c n : ℕ) → c < S .classes → a ≡ addressOf S (itemAt S o) → record { address = a; size = itemCapacity S c; shown = itemShown S c n } ∈ live S L → (m : ℕ) × (findFrom S a (start S) (L .blocks) ≡ thing o c m)
+    item-again a o c n few at h = go (findFrom S a (start S) (L .blocks)) refl (live-found (record { address = a; size = itemCapacity S c; shown = itemShown S c n }) (start S) (L .blocks) good (v .allowed) h)
       where
-        go : (f : Found) → findFrom S a (start S) (L .blocks) ≡ f → Shown (record { address = a; size = itemCapacity S c }) f → f ≡ thing o c
+        go : (f : Found) → findFrom S a (start S) (L .blocks) ≡ f → Shown (record { address = a; size = itemCapacity S c; shown = itemShown S c n }) f → (m : ℕ) × (f ≡ thing o c m)
         go (block t) e s = absurd (omega (arith, taken-large a t e, s .large))
-        go (thing o′ c′) e s =
-            let i = item-found S good a o′ c′ (start S) (L .blocks) (omega arith) (v .allowed) e in
+        go (thing o′ c′ m) e s =
+            let i = item-found S good a o′ c′ m (start S) (L .blocks) (omega arith) (v .allowed) e in
             let eo : o′ ≡ o = omega (arith, i .at) in
             let ec : c′ ≡ c = omega (arith, s .large) in
-            rw (eo, ec) refl
+            (m, rw (eo, ec) refl)
         go nothing e s = absurd (s .there refl)
 
-    pub block-again : (a s : ℕ) → leastVariable S ≤ s → record { address = a; size = s - tags S } ∈ live S L → (t : Spot) × (findFrom S a (start S) (L .blocks) ≡ block t) × (t .size ≡ s)
-    block-again a s large h = go (findFrom S a (start S) (L .blocks)) refl (live-found (record { address = a; size = s - tags S }) (start S) (L .blocks) good (v .allowed) h)
+    pub block-again : (a s : ℕ) → leastVariable S ≤ s → record { address = a; size = s - tags S; shown = s - tags S } ∈ live S L → (t : Spot) × (findFrom S a (start S) (L .blocks) ≡ block t) × (t .size ≡ s)
+    block-again a s large h = go (findFrom S a (start S) (L .blocks)) refl (live-found (record { address = a; size = s - tags S; shown = s - tags S }) (start S) (L .blocks) good (v .allowed) h)
       where
-        go : (f : Found) → findFrom S a (start S) (L .blocks) ≡ f → Shown (record { address = a; size = s - tags S }) f → (t : Spot) × (findFrom S a (start S) (L .blocks) ≡ block t) × (t .size ≡ s)
+        go : (f : Found) → findFrom S a (start S) (L .blocks) ≡ f → Shown (record { address = a; size = s - tags S; shown = s - tags S }) f → (t : Spot) × (findFrom S a (start S) (L .blocks) ≡ block t) × (t .size ≡ s)
         go (block t) e k = (t, e, omega (arith, taken-large a t e, k .large))
-        go (thing o c) e k =
-            let i = item-found S good a o c (start S) (L .blocks) (omega arith) (v .allowed) e in
+        go (thing o c n) e k =
+            let i = item-found S good a o c n (start S) (L .blocks) (omega arith) (v .allowed) e in
             absurd (omega (arith, i .class, k .large))
         go nothing e k = absurd (k .there refl)

@@ -27,8 +27,8 @@ module _ (S : Shape) where
   unfolding slotsLive _∈_
   slots-within c p [] x h = absurd h
   slots-within c p (idle ∷ ss) x h = let r = slots-within c (p + itemSize S c) ss x h in (omega (arith, r .0), omega (arith, r .1))
-  slots-within c p (held ∷ ss) x (inl e) = omega (arith, ap (λ (y : Payload). y .address) e, ap (λ (y : Payload). y .size) e)
-  slots-within c p (held ∷ ss) x (inr h) = let r = slots-within c (p + itemSize S c) ss x h in (omega (arith, r .0), omega (arith, r .1))
+  slots-within c p (held n ∷ ss) x (inl e) = omega (arith, ap (λ (y : Payload). y .address) e, ap (λ (y : Payload). y .size) e)
+  slots-within c p (held n ∷ ss) x (inr h) = let r = slots-within c (p + itemSize S c) ss x h in (omega (arith, r .0), omega (arith, r .1))
 
   use-within : (p : ℕ) (u : Use) → AllowedUse S u → (x : Payload) → x ∈ useLive S p u → Within (p + S .word) (p + useSize S u - S .word) x
   unfolding useLive useSize AllowedUse _∈_
@@ -57,9 +57,9 @@ module _ (S : Shape) where
   unfolding slotsLive InTurn
   slots-apart c p [] x y h = absurd h
   slots-apart c p (idle ∷ ss) x y h = slots-apart c (p + itemSize S c) ss x y h
-  slots-apart c p (held ∷ ss) x y (inl h) =
+  slots-apart c p (held n ∷ ss) x y (inl h) =
       omega (arith, ap (λ (z : Payload). z .address) (h .0), ap (λ (z : Payload). z .size) (h .0), slots-within c (p + itemSize S c) ss y (h .1) .0)
-  slots-apart c p (held ∷ ss) x y (inr h) = slots-apart c (p + itemSize S c) ss x y h
+  slots-apart c p (held n ∷ ss) x y (inr h) = slots-apart c (p + itemSize S c) ss x y h
 
   use-apart : (p : ℕ) (u : Use) (x y : Payload) → InTurn x y (useLive S p u) → x .address + x .size ≤ y .address
   unfolding useLive InTurn _∈_
@@ -90,14 +90,14 @@ module _ (S : Shape) where
     unfolding slotsLive slotWords Clear _∈_
     slots-clear c l p [] h = tt
     slots-clear c l p (idle ∷ ss) h = let r = slots-within c (p + itemSize S c) ss x h in ((λ j k. omega (arith, r .0)), slots-clear c l (p + itemSize S c) ss h)
-    slots-clear c l p (held ∷ ss) (inl e) =
+    slots-clear c l p (held n ∷ ss) (inl e) =
         let ea = ap (λ (y : Payload). y .address) e in
         let es = ap (λ (y : Payload). y .size) e in (
           (λ j k. omega arith),
           rise-clear (S .word) (x .address) (x .address + x .size) (p + itemSize S c) (slotWords S c l (p + itemSize S c) ss) (p + itemSize S c + length ss * itemSize S c)
               (rise-slots S c l (p + itemSize S c) ss (p + itemSize S c + length ss * itemSize S c) (omega arith)) (λ j k. omega arith),
         )
-    slots-clear c l p (held ∷ ss) (inr h) = let r = slots-within c (p + itemSize S c) ss x h in ((λ j k. omega (arith, r .0)), slots-clear c l (p + itemSize S c) ss h)
+    slots-clear c l p (held n ∷ ss) (inr h) = let r = slots-within c (p + itemSize S c) ss x h in ((λ j k. omega (arith, r .0)), slots-clear c l (p + itemSize S c) ss h)
 
     use-clear : (ls : List (List ℕ)) (p : ℕ) (u : Use) → AllowedUse S u → x ∈ useLive S p u → Untouched (useWords S ls p u)
     unfolding useWords useSize Clear

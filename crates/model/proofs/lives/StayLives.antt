@@ -1,5 +1,5 @@
 -- What a resize in place leaves: a valid layout, in which the same is live, with the record at its address.
-use Prim.Native.Nat.{ℕ, _+_, _-_, _*_, _%_, _≤_, _<_}
+use Prim.Native.Nat.{ℕ, _+_, _-_, _%_, _≤_, _<_}
 use mathlib.Core.Path.{_≡_, refl, sym, ap, ap₂, subst, _∙_}
 use mathlib.Core.Bool.{cond, _&&_}
 use mathlib.Core.List.{List, [], _∷_, _++_}
@@ -9,21 +9,24 @@ use native.Mathlib.Omega.{arith}
 use native.Mathlib.Decide.{ℕ-discrete, decLe}
 use lib.Dec.{eqb, leb}
 use borrow.Author.Tests.{eq-eqb, ne-eqb, le-leb, lt-leb}
-use Rattle.model.specs.Shape.{Shape, start, tags, leastFree, leastVariable, largestItem, classOf, needOf, addressOf, up8}
+use Rattle.model.specs.Shape.{Shape, start, tags, leastFree, leastVariable, largestItem, classOf, needOf, addressOf, itemAt}
 use Rattle.model.specs.Layout.{variable, Block, free, used, Layout, useSize, sizeOf, ends}
 use Rattle.model.specs.Sound.{Allowed, AllowedUse, AllAllowed, Apart, idleIn, idleItems, Valid}
-use Rattle.model.specs.Rules.{Spot, before, Found, block, thing, nothing, cut, asVariable, find, shrunk, grown, reshaped, stays}
+use Rattle.model.specs.Rules.{Spot, before, Found, block, thing, nothing, cut, asVariable, find, shrunk, grown, reshaped, pushed, renewed, stays}
 use Rattle.model.specs.Live.{_∈_, Payload, useLive, liveFrom, live}
 use Rattle.model.proofs.lives.Members.{in-left, in-right, in-either}
 use Rattle.model.proofs.blocks.Blocks.{allowed-right}
 use Rattle.model.proofs.blocks.Replace.{three}
 use Rattle.model.proofs.blocks.Valid.{apart-down, replaced-valid}
-use Rattle.model.proofs.walks.Finding.{block-found}
+use Rattle.model.proofs.walks.Finding.{block-found, item-found}
 use Rattle.model.proofs.blocks.Releasing.{Side, nobody, neighbour, Sides, sides-of}
 use Rattle.model.proofs.lives.Lives.{live-append}
 use Rattle.model.proofs.Good.{Good}
 use Rattle.model.proofs.Sizes.{up-above, need-eight}
-use Rattle.model.proofs.lives.FreeLives.{blockPayload, freed-removes}
+use Rattle.model.proofs.lives.FreeLives.{variablePayload, blockPayload}
+use Rattle.model.proofs.lives.ItemLives.{itemPayload, item-adds}
+use Rattle.model.proofs.items.Asked.{within-own, within-capacity, shown-asked}
+use Rattle.model.proofs.items.Push.{renew-valid}
 
 -- blocks whose first is not free, with a free block in front
 front-apart : (s : ℕ) (bs : List Block) → Apart 1 bs → before (free s) bs ≡ free s ∷ bs
@@ -31,9 +34,6 @@ unfolding before Apart
 front-apart s [] h = refl
 front-apart s (free t ∷ bs) h = absurd (omega (arith, h .0))
 front-apart s (used u ∷ bs) h = refl
-
-not-nothing : (o c : ℕ) → thing o c ≡ nothing → ⊥
-not-nothing o c e = let z : _≡_ {A = ℕ} 0 1 = cc in omega arith
 
 module _ (S : Shape) where
   -- a free block, or none, of an allowed size
@@ -65,7 +65,7 @@ module _ (S : Shape) where
   run-idle c p z nobody = refl
   run-idle c p z (neighbour k) = refl
 
-  run-live : (p z : ℕ) {ss : List Block} {k : ℕ} → Side ss k → liveFrom S p (run z ss) ≡ record { address = addressOf S p; size = z - tags S } ∷ []
+  run-live : (p z : ℕ) {ss : List Block} {k : ℕ} → Side ss k → liveFrom S p (run z ss) ≡ variablePayload S p z ∷ []
   unfolding liveFrom useLive
   run-live p z nobody = refl
   run-live p z (neighbour k) = refl
@@ -98,21 +98,22 @@ module _ (S : Shape) where
       pub there : payload ∈ live S M
       pub at : payload .address ≡ a
       pub large : n ≤ payload .size
+      pub shown : n ≤ largestItem S → payload .shown ≡ n
 
     unfoldable StayedAs : ℕ → Option Layout → Type 0
     StayedAs end none = Unit {0}
     StayedAs end (some M) = Stayed end M
 
     module _ {end : ℕ} (v : Valid S end L) (t : Spot) (e : L .blocks ≡ t .pre ++ ((used (variable (t .size)) ∷ []) ++ t .post)) (at : a ≡ addressOf S (ends S (start S) (t .pre))) where
-      reshaped-stayed : (bs : List Block) (need : ℕ) → leastVariable S ≤ need → n + tags S ≤ need → Reshapes t bs need → Stayed end (record { blocks = t .pre ++ bs; lists = L .lists })
+      reshaped-stayed : (bs : List Block) (need : ℕ) → largestItem S < n → leastVariable S ≤ need → n + tags S ≤ need → Reshapes t bs need → Stayed end (record { blocks = t .pre ++ bs; lists = L .lists })
       unfolding _∈_
-      reshaped-stayed bs need big holds-it s =
+      reshaped-stayed bs need above big holds-it s =
           let p = ends S (start S) (t .pre) in
           let old = run (t .size) (s .rights) in
           let mid = run (s .z) (s .mine) in
           let A = liveFrom S (start S) (t .pre) in
           let C = liveFrom S (p + (t .size + s .r)) (s .rest) in
-          let y : Payload = record { address = addressOf S p; size = s .z - tags S } in
+          let y = variablePayload S p (s .z) in
           let was : L .blocks ≡ t .pre ++ (old ++ s .rest) = e ∙ ap (λ (l : List Block). t .pre ++ (used (variable (t .size)) ∷ l)) (s .post-is) in
           let v′ : Valid S end (three S (L .lists) (t .pre) old (s .rest)) = subst (λ (l : List Block). Valid S end (record { blocks = l; lists = L .lists })) was v in
           let w : Valid S end (three S (L .lists) (t .pre) mid (s .rest)) =
@@ -141,6 +142,7 @@ module _ (S : Shape) where
             there = subst (λ (q : List Payload). y ∈ q) (sym m) (in-right y A (y ∷ C) (inl refl));
             at = sym at;
             large = omega (arith, s .large, holds-it);
+            shown = λ l. absurd (omega arith);
           }
 
   -- what a block's right side is allowed to be
@@ -279,7 +281,7 @@ module _ (S : Shape) where
     big-stays big te mine s all = go (decLe (needOf S n) (t .size))
       where
         there : (bs : List Block) → Reshapes t bs (needOf S n) → Stayed n a L end (record { blocks = t .pre ++ bs; lists = L .lists })
-        there bs r = reshaped-stayed n a L v t e at bs (needOf S n) (omega (arith, up-above (S .classes) n big)) (omega arith) r
+        there bs r = reshaped-stayed n a L v t e at bs (needOf S n) big (omega (arith, up-above (S .classes) n big)) (omega arith) r
 
         grows : (o : Option (List Block)) → ReshapesAs t (needOf S n) o → StayedAs n a L end (reshaped S (needOf S n) t L o)
         grows none r = tt
@@ -309,16 +311,28 @@ module _ (S : Shape) where
         go (no h) = rw (lt-leb n (largestItem S) (omega arith)) (big-stays (omega arith) te (all .0 .1) s (right s (all .1)))
 
   module _ (good : Good S) (n a : ℕ) (one : 1 ≤ n) {end : ℕ} {L : Layout} (v : Valid S end L) where
-    item-stays : (o c : ℕ) → find S a L ≡ thing o c → StayedAs n a L end (stays S n (thing o c) L)
+    item-stays : (o c k : ℕ) → find S a L ≡ thing o c k → StayedAs n a L end (stays S n (thing o c k) L)
     unfolding stays StayedAs
-    item-stays o c e = go (decLe n (largestItem S)) (ℕ-discrete (classOf n) c)
+    item-stays o c k e = go (decLe n (largestItem S)) (ℕ-discrete (classOf n) c)
       where
-        same : classOf n ≡ c → Stayed n a L end L
-        same k =
-            let m = freed-removes S good v a (thing o c) e (λ z. absurd (not-nothing o c z)) in
-            record { valid = v; others = λ x h z. h; only = λ x h. inl h; payload = m .payload; there = m .adds .there; at = m .at; large = omega (arith, k, m .size) }
+        -- beside the item the same is live as where it is given back, and the item for n bytes
+        same : classOf n ≡ c → Stayed n a L end (renewed S n o L)
+        same own =
+            let i = item-found S good a o c k (start S) (L .blocks) (omega arith) (v .allowed) e in
+            let old = item-adds S good L (pushed S c o L) L (v .allowed) k c (itemAt S o) (i .there) refl (sym (i .in-use)) in
+            let new = item-adds S good L (pushed S c o L) (renewed S n o L) (v .allowed) n c (itemAt S o) (i .there) refl refl in
+            record {
+              valid = renew-valid S v c o k (i .class) (i .there) (i .in-use) n (within-own c n own);
+              others = λ x h z. new .kept x (⊎-elim (λ j. j) (λ j. absurd (z (ap (λ (y : Payload). y .address) j ∙ sym (i .at)))) (old .only x h));
+              only = λ x h. ⊎-elim (λ j. inl (old .kept x j)) (λ j. inr (ap (λ (y : Payload). y .address) j ∙ sym (i .at))) (new .only x h);
+              payload = itemPayload S c n (itemAt S o);
+              there = new .there;
+              at = sym (i .at);
+              large = within-capacity S c n (within-own c n own);
+              shown = λ l. shown-asked S c n one;
+            }
 
-        go : Dec (n ≤ largestItem S) → Dec (classOf n ≡ c) → StayedAs n a L end (cond (leb n (largestItem S) && eqb (classOf n) c) (some L) none)
+        go : Dec (n ≤ largestItem S) → Dec (classOf n ≡ c) → StayedAs n a L end (cond (leb n (largestItem S) && eqb (classOf n) c) (some (renewed S n o L)) none)
         go (no h) k = rw (lt-leb n (largestItem S) (omega arith)) tt
         go (yes h) (no k) = rw (le-leb n (largestItem S) h, ne-eqb (classOf n) c k) tt
         go (yes h) (yes k) = rw (le-leb n (largestItem S) h, eq-eqb (classOf n) c k) (same k)
@@ -327,7 +341,7 @@ module _ (S : Shape) where
     stays-as : (f : Found) → find S a L ≡ f → StayedAs n a L end (stays S n f L)
     unfolding stays StayedAs
     stays-as nothing e = tt
-    stays-as (thing o c) e = item-stays o c e
+    stays-as (thing o c k) e = item-stays o c k e
     stays-as (block t) e = let k = block-found S good a (start S) (L .blocks) t e in block-stays n a v t (k .blocks) (k .at) (good .tags)
 
     pub stays-stayed : (M : Layout) → stays S n (find S a L) L ≡ some M → Stayed n a L end M

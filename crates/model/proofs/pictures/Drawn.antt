@@ -17,8 +17,9 @@ use Rattle.model.proofs.pictures.Pictures.{Rise, Fit, fit-append, rise-
 use Rattle.model.specs.Shape.{Shape, start, index, offsetOf, tags, itemSize, endOf}
 use Rattle.model.specs.Layout.{Slot, idle, held, Use, variable, page, Block, free, used, Layout, headOf, nextOf, useSize, sizeOf, ends, header, slotWords, useWords, own, blockWords, headWords, fixedLow, fixedHigh, words}
 use Rattle.model.proofs.blocks.Blocks.{le-ends, first-below}
-use Rattle.model.specs.Sound.{times, Allowed, AllowedUse, AllAllowed, idleSlots, idleIn, idleItems, Valid, Here}
+use Rattle.model.specs.Sound.{times, AllWithin, Allowed, AllowedUse, AllAllowed, idleSlots, idleIn, idleItems, Valid, Here}
 use Rattle.model.proofs.blocks.Replace.{front, rise-front}
+use Rattle.model.proofs.items.Asked.{held-fits}
 
 -- how often o stands in two lists
 pub times-append : (o : ℕ) (xs ys : List ℕ) → times o (xs ++ ys) ≡ times o xs + times o ys
@@ -47,7 +48,7 @@ module _ (S : Shape) where
   slot-below : (c o p : ℕ) (ss : List Slot) (hi : ℕ) → 1 ≤ times o (idleSlots S c p ss) → p + length ss * itemSize S c ≤ hi → o ≤ hi
   unfolding idleSlots times
   slot-below c o p [] hi h k = absurd (omega arith)
-  slot-below c o p (held ∷ ss) hi h k = slot-below c o (p + itemSize S c) ss hi h (omega arith)
+  slot-below c o p (held n ∷ ss) hi h k = slot-below c o (p + itemSize S c) ss hi h (omega arith)
   slot-below c o p (idle ∷ ss) hi h k = go (ℕ-discrete o (offsetOf S p)) (slot-below c o (p + itemSize S c) ss hi)
     where
       go : Dec (o ≡ offsetOf S p) → (1 ≤ times o (idleSlots S c (p + itemSize S c) ss) → p + itemSize S c + length ss * itemSize S c ≤ hi → o ≤ hi) → o ≤ hi
@@ -79,17 +80,17 @@ module _ (S : Shape) where
     listed-below c o h (inl e) = omega arith
     listed-below c o h (inr e) = rw (v .fills) at (item-below c o (start S) (L .blocks) (rw (v .listed c o h) at e))
 
-    fit-slots : (c p : ℕ) (ss : List Slot) → c < S .classes → Fit (S .word) (slotWords S c (getD (L .lists) c []) p ss)
-    unfolding Fit slotWords header
-    fit-slots c p [] h = tt
-    fit-slots c p (idle ∷ ss) h = (omega (arith, good .fits end short, listed-below c (nextOf (offsetOf S p) (getD (L .lists) c [])) h (next-of (offsetOf S p) (getD (L .lists) c []))), fit-slots c (p + itemSize S c) ss h)
-    fit-slots c p (held ∷ ss) h = (omega (arith, good .fits end short), fit-slots c (p + itemSize S c) ss h)
+    fit-slots : (c p : ℕ) (ss : List Slot) → c < S .classes → AllWithin c ss → Fit (S .word) (slotWords S c (getD (L .lists) c []) p ss)
+    unfolding Fit slotWords header AllWithin
+    fit-slots c p [] h a = tt
+    fit-slots c p (idle ∷ ss) h a = (omega (arith, good .fits end short, listed-below c (nextOf (offsetOf S p) (getD (L .lists) c [])) h (next-of (offsetOf S p) (getD (L .lists) c []))), fit-slots c (p + itemSize S c) ss h (a .1))
+    fit-slots c p (held n ∷ ss) h a = (held-fits S good c n h (a .0), fit-slots c (p + itemSize S c) ss h (a .1))
 
     fit-use : (p : ℕ) (u : Use) → AllowedUse S u → p + useSize S u ≤ end → Fit (S .word) (useWords S (L .lists) p u)
     unfolding Fit useWords AllowedUse useSize
     fit-use p (variable s) a h = omega (arith, good .fits end short)
     fit-use p (page c k ss) a h =
-        (omega (arith, good .fits end short), fit-append (S .word) (slotWords S c (getD (L .lists) c []) (p + S .word) ss) (record { at = p + useSize S (page c k ss) - S .word; is = useSize S (page c k ss) + 3 } ∷ []) (fit-slots c (p + S .word) ss (a .0)) (omega (arith, good .fits end short)))
+        (omega (arith, good .fits end short), fit-append (S .word) (slotWords S c (getD (L .lists) c []) (p + S .word) ss) (record { at = p + useSize S (page c k ss) - S .word; is = useSize S (page c k ss) + 3 } ∷ []) (fit-slots c (p + S .word) ss (a .0) (a .4)) (omega (arith, good .fits end short)))
 
     pub fit-blocks : (p prev next : ℕ) (bs : List Block) → AllAllowed S bs → ends S p bs ≤ end → prev ≤ end → next ≤ end → Fit (S .word) (blockWords S (L .lists) p prev next bs)
     unfolding blockWords ends own sizeOf AllAllowed Allowed Fit

@@ -151,6 +151,11 @@ module _ (w : ℕ) where
       at i l o (yes m) (no n) = h i l ((λ _ q. n q), o) ∙ sym (put-out w b (x .at) (x .is) i (λ _ q. n q))
       at i l o (no m) d = h i l ((λ q _. m q), o) ∙ sym (put-out w b (x .at) (x .is) i (λ q _. m q))
 
+  -- a word that is there already, put again, changes nothing
+  pub put-again : (b : List ℕ) (p : ℕ) → Bytes b → put w b p (wordAt w b p) ≡ b
+  unfolding draw Shows
+  put-again b p k = sym (drawn (record { at = p; is = wordAt w b p } ∷ []) b b k refl (refl, tt) (λ i l o. refl))
+
   -- words outside a stretch leave it clear
   pub rise-clear : (a b : ℕ) (lo : ℕ) (ws : List Word) (hi : ℕ) → Rise w lo ws hi → (a < hi → lo < b → ⊥) → Clear w a b ws
   unfolding Rise Clear

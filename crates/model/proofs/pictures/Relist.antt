@@ -12,7 +12,7 @@ use Rattle.words.specs.Word.{put, Bytes}
 use Rattle.words.proofs.WordLaws.{length-put, put-out, bytes-put}
 use Rattle.model.specs.Picture.{Word, Shows, draw}
 use Rattle.model.specs.Shape.{Shape, start, index, tags, itemSize}
-use Rattle.model.specs.Parts.{firstFreeAt}
+use Rattle.model.specs.Parts.{firstFreeAt, heldHeader}
 use Rattle.model.specs.Layout.{Slot, idle, held, Use, variable, page, Block, free, used, Layout, headOf, useSize, sizeOf, ends, firstFree, header, slotWords, useWords, own, blockWords, headWords, fixedLow, fixedHigh, words}
 use Rattle.model.specs.Sound.{times, idleSlots, idleIn, idleItems, Valid}
 use Rattle.model.proofs.Good.{Good}
@@ -31,7 +31,7 @@ module _ (S : Shape) where
     unfolding slotWords header idleSlots times
     slots-relist p [] h = refl
     slots-relist p (idle ∷ ss) h = absurd (omega (arith, rw (eq-eqb (p - index S) (p - index S) refl) at (h (p - index S))))
-    slots-relist p (held ∷ ss) h = ap (λ (l : List Word). record { at = p; is = 4 * c + 3 } ∷ l) (slots-relist (p + itemSize S c) ss h)
+    slots-relist p (held n ∷ ss) h = ap (λ (l : List Word). record { at = p; is = heldHeader c n } ∷ l) (slots-relist (p + itemSize S c) ss h)
 
     use-relist : (p : ℕ) (u : Use) → ((o : ℕ) → times o (idleIn S c p (used u)) ≡ 0) → useWords S ls′ p u ≡ useWords S ls p u
     unfolding useWords idleIn

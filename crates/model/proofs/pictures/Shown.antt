@@ -29,7 +29,7 @@ module _ (S : Shape) (b : List ℕ) where
     slots-read : (c o p : ℕ) (ss : List Slot) → index S ≤ p → Shows (S .word) b (slotWords S c (getD ls c []) p ss) → 1 ≤ times o (idleSlots S c p ss) → Says c o
     unfolding slotWords Shows header idleSlots times
     slots-read c o p [] h s k = absurd (omega arith)
-    slots-read c o p (held ∷ ss) h s k = slots-read c o (p + itemSize S c) ss (omega arith) (s .1) k
+    slots-read c o p (held n ∷ ss) h s k = slots-read c o (p + itemSize S c) ss (omega arith) (s .1) k
     slots-read c o p (idle ∷ ss) h s k = go (ℕ-discrete o (offsetOf S p)) (slots-read c o (p + itemSize S c) ss (omega arith) (s .1))
       where
         go : Dec (o ≡ offsetOf S p) → (1 ≤ times o (idleSlots S c (p + itemSize S c) ss) → Says c o) → Says c o

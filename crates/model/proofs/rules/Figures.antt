@@ -1,4 +1,4 @@
--- Document 01's figures, computed from the definitions: one table, one statement. At 8 bytes a word only, as the figures are.
+-- Document 01's figures and 02 (iv)'s, computed from the definitions: one table, one statement. At 8 bytes a word only, as the figures are.
 use Prim.Native.Nat.{ℕ, _+_, _*_, _≤_, _<_}
 use native.Mathlib.Nat.{div-add-mod', mod-lt}
 use native.Mathlib.Omega.{arith}
@@ -11,10 +11,11 @@ use Rattle.model.specs.Shape.{wide, start, leastFree, itemSize, endOf}
 use Rattle.model.proofs.Sizes.{eight, page-items-bound}
 use Rattle.model.specs.Layout.{Layout, headOf, nextOf, useSize, sizeOf, ends, firstFree, header, slotWords, useWords, own, blockWords, headWords, fixedLow, fixedHigh, words}
 use Rattle.model.specs.Sound.{idleSlots}
-use Rattle.model.specs.Rules.{fit, before, inFront, cut, slotTo, useTo, itemTo, fromList, fromPage, anItem, aBlock, allocate, inSlots, findFrom, freed, shrunk, grown, reshaped, stays, fresh}
+use Rattle.model.specs.Rules.{fit, before, inFront, cut, slotTo, useTo, itemTo, fromList, fromPage, anItem, aBlock, allocate, inSlots, findFrom, find, freed, shownOf, shrunk, grown, reshaped, renewed, stays, fresh}
 use Rattle.model.specs.Reading.{total, greatest, heldIn, ofBlock, counted}
-use Rattle.model.specs.Promises.{Call, allocating, freeing, resizing}
-use Rattle.model.proofs.rules.OnLayouts.{resizedOn, doing}
+use Rattle.model.specs.Calls.{staying, moving}
+use Rattle.model.specs.Promises.{Call, allocating, freeing, resizing, resizingBy}
+use Rattle.model.proofs.rules.OnLayouts.{resizedOn, resizedByOn, doing}
 
 -- the value of a picture's word at a position; 9,999,999 where it names none
 wordIn : ℕ → List Word → ℕ
@@ -60,6 +61,20 @@ R = after (allocating 600) H
 P : Layout
 P = after (allocating 16) H
 
+-- (iv): with a remark of 13 bytes; B as the rule before left it, with a padding of 0; and a record of 30 on a heap that has no room for another page
+E : Layout
+E = after (allocating 13) B
+
+O : Layout
+O = renewed wide 0 592 B
+
+K : Layout
+K = after (allocating 30) (freshOf 4800)
+
+-- how many bytes a look-up shows
+shown : ℕ → Layout → ℕ
+shown a L = shownOf wide (find wide a L)
+
 computed : List ℕ
 computed =
     (start wide + leastFree wide) ∷ word 312 (freshOf 344) ∷ says (allocating 1) (freshOf 344) ∷ endOf 351
@@ -76,6 +91,10 @@ computed =
     ∷ gives (resizing 320 568) R ∷ word 24 (after (resizing 320 568) R) ∷ word 896 (after (resizing 320 568) R)
     ∷ gives (resizing 320 700) R ∷ word 24 (after (resizing 320 700) R) ∷ word 1032 (after (resizing 320 700) R)
     ∷ word 312 (after (allocating 257) H) ∷ says (freeing 48) P ∷ says (freeing 320) P
+    ∷ gives (allocating 13) B ∷ shown 672 E ∷ word 664 E ∷ shown 672 (after (resizingBy staying 672 9) E) ∷ word 664 (after (resizingBy staying 672 9) E)
+    ∷ gives (resizingBy moving 672 15) E ∷ shown 696 (after (resizingBy moving 672 15) E)
+    ∷ shown 648 O ∷ word 640 O ∷ shown 648 (after (resizingBy staying 648 16) O) ∷ word 640 (after (resizingBy staying 648 16) O)
+    ∷ gives (resizing 328 5) K ∷ shown 328 (after (resizing 328 5) K) ∷ shown 320 A
     ∷ counted (C .blocks) .freeBytes ∷ counted (C .blocks) .freeBlocks ∷ counted (C .blocks) .largestFree ∷ counted (C .blocks) .variables ∷ counted (C .blocks) .pages ∷ counted (C .blocks) .items
     ∷ []
 
@@ -84,7 +103,7 @@ expected =
     344 ∷ 32 ∷ 6 ∷ 344
     ∷ 312 ∷ 9688
     ∷ 320 ∷ 322 ∷ 632 ∷ 9368
-    ∷ 648 ∷ 4123 ∷ 7 ∷ 616 ∷ 10245 ∷ 4752 ∷ 5248
+    ∷ 648 ∷ 4123 ∷ 2055 ∷ 616 ∷ 10245 ∷ 4752 ∷ 5248
     ∷ 312 ∷ 4752
     ∷ 320 ∷ 40
     ∷ 320 ∷ 32
@@ -95,11 +114,15 @@ expected =
     ∷ 320 ∷ 896 ∷ 9104
     ∷ 320 ∷ 1032 ∷ 8968
     ∷ 282 ∷ 5 ∷ 5
+    ∷ 672 ∷ 13 ∷ 1671 ∷ 9 ∷ 1159
+    ∷ 696 ∷ 15
+    ∷ 16 ∷ 7 ∷ 16 ∷ 2055
+    ∷ 328 ∷ 30 ∷ 304
     ∷ 5568 ∷ 2 ∷ 5248 ∷ 0 ∷ 1 ∷ 1
     ∷ []
 
 figures : computed ≡ expected
-unfolding computed expected wordIn word gives says after freshOf H A B C D R P resizedOn doing headOf nextOf useSize sizeOf ends firstFree header slotWords useWords own blockWords headWords fixedLow fixedHigh words idleSlots fit before inFront cut slotTo useTo itemTo fromList fromPage anItem aBlock allocate inSlots findFrom freed shrunk grown reshaped stays total greatest heldIn ofBlock counted
+unfolding computed expected wordIn word gives says after shown freshOf H A B C D E K O R P resizedOn resizedByOn doing headOf nextOf useSize sizeOf ends firstFree header slotWords useWords own blockWords headWords fixedLow fixedHigh words idleSlots fit before inFront cut slotTo useTo itemTo fromList fromPage anItem aBlock allocate inSlots findFrom freed shrunk grown reshaped stays total greatest heldIn ofBlock counted
 figures = refl
 
 -- a page's items take more than 4,096 and at most 4,360 bytes

@@ -51,7 +51,7 @@ module _ (S : Shape) (b : List ℕ) (a n : ℕ) (L : Layout) where
   found-there : {A : Type 0} (f : Found) → isThere f ≡ 1 → (x y : A) → found S f x y ≡ y
   found-there nothing i x y = absurd (omega (arith, i))
   found-there (block t) i x y = refl
-  found-there (thing o c) i x y = refl
+  found-there (thing o c k) i x y = refl
 
   one-went : (v : Way) → isThere (find S a L) ≡ 1 → Went (oneWay S v b a n L) (oneWayOn S v a n L)
   one-went staying i = go (stays S n (find S a L) L) refl
@@ -87,7 +87,7 @@ module _ (S : Shape) (b : List ℕ) (a n : ℕ) (L : Layout) where
       go : (f : Found) → find S a L ≡ f → Went (found S (find S a L) (refused b notLive) o) (found S (find S a L) (refuse notLive L) d)
       go nothing e = rw e (nowhere e)
       go (block t) e = there (ap isThere e)
-      go (thing o c) e = there (ap isThere e)
+      go (thing o c k) e = there (ap isThere e)
 
   -- THE LAWS: where one way leads, and where resize does
   pub went-by : (v : Way) → Went (resizedBy S v b a n L) (resizedByOn S v a n L)
@@ -121,7 +121,7 @@ module _ (S : Shape) (b : List ℕ) (a n : ℕ) (L : Layout) where
           ≡ orNext (found S f (refused b notLive) (oneWay S staying b a n L)) (orNext (found S f (refused b notLive) (oneWay S moving b a n L)) (found S f (refused b notLive) (oneWay S keeping b a n L)))
       go nothing = refl
       go (block t) = refl
-      go (thing o c) = refl
+      go (thing o c k) = refl
 
   -- a way is shut
   abbrev pub Shut : Way → Type 0

@@ -54,36 +54,36 @@ none-fits need (used u ∷ bs) h = let r = none-fits need bs (λ s i. h s (inr i
 
 module _ (S : Shape) where
   -- a page has an item, so that only an empty list and no room for a page give nothing
-  list-some : (c : ℕ) (L : Layout) (l : List ℕ) → (l ≡ [] → ⊥) → fromList S c L l ≡ none → ⊥
+  list-some : (n c : ℕ) (L : Layout) (l : List ℕ) → (l ≡ [] → ⊥) → fromList S n c L l ≡ none → ⊥
   unfolding fromList
-  list-some c L [] h e = h refl
-  list-some c L (o ∷ os) h e = some-none _ e
+  list-some n c L [] h e = h refl
+  list-some n c L (o ∷ os) h e = some-none _ e
 
   slots-some : (c p n : ℕ) → 0 < n → idleSlots S c p (replicate n idle) ≡ [] → ⊥
   unfolding idleSlots
   slots-some c p zero h e = omega arith
   slots-some c p (suc n) h e = let z : _≡_ {A = ℕ} 0 1 = cc in omega arith
 
-  page-none : (c : ℕ) (L : Layout) → c < length (L .lists) → 0 < S .perPage c → (o : Option Spot) → fromPage S c L o ≡ none → o ≡ none
+  page-none : (n c : ℕ) (L : Layout) → c < length (L .lists) → 0 < S .perPage c → (o : Option Spot) → fromPage S n c L o ≡ none → o ≡ none
   unfolding fromPage
-  page-none c L cl n none e = refl
-  page-none c L cl n (some t) e =
+  page-none n c L cl k none e = refl
+  page-none n c L cl k (some t) e =
       let l = idleSlots S c (spotAt S t + S .word) (replicate (S .perPage c) idle) in
-      absurd (list-some c (paged S c t L) (getD (paged S c t L .lists) c []) (λ z. slots-some c (spotAt S t + S .word) (S .perPage c) n (sym (getD-set-same (L .lists) c l [] cl) ∙ z)) e)
+      absurd (list-some n c (paged S c t L) (getD (paged S c t L .lists) c []) (λ z. slots-some c (spotAt S t + S .word) (S .perPage c) k (sym (getD-set-same (L .lists) c l [] cl) ∙ z)) e)
 
-  item-none : (c : ℕ) (L : Layout) → c < length (L .lists) → 0 < S .perPage c → (l : List ℕ) → anItem S c L l ≡ none → (l ≡ []) × (fit (pageNeed S c) (L .blocks) ≡ none)
+  item-none : (n c : ℕ) (L : Layout) → c < length (L .lists) → 0 < S .perPage c → (l : List ℕ) → anItem S n c L l ≡ none → (l ≡ []) × (fit (pageNeed S c) (L .blocks) ≡ none)
   unfolding anItem
-  item-none c L cl n [] e = (refl, page-none c L cl n (fit (pageNeed S c) (L .blocks)) e)
-  item-none c L cl n (o ∷ os) e = absurd (list-some c L (o ∷ os) (λ z. let y : _≡_ {A = ℕ} 0 1 = cc in omega arith) e)
+  item-none n c L cl k [] e = (refl, page-none n c L cl k (fit (pageNeed S c) (L .blocks)) e)
+  item-none n c L cl k (o ∷ os) e = absurd (list-some n c L (o ∷ os) (λ z. let y : _≡_ {A = ℕ} 0 1 = cc in omega arith) e)
 
   block-none : (need : ℕ) (L : Layout) (o : Option Spot) → aBlock S need L o ≡ none → o ≡ none
   unfolding aBlock
   block-none need L none e = refl
   block-none need L (some t) e = absurd (some-none _ e)
 
-  none-item : (c : ℕ) (L : Layout) → getD (L .lists) c [] ≡ [] → fit (pageNeed S c) (L .blocks) ≡ none → anItem S c L (getD (L .lists) c []) ≡ none
+  none-item : (n c : ℕ) (L : Layout) → getD (L .lists) c [] ≡ [] → fit (pageNeed S c) (L .blocks) ≡ none → anItem S n c L (getD (L .lists) c []) ≡ none
   unfolding anItem fromPage
-  none-item c L e f = rw (e, f) refl
+  none-item n c L e f = rw (e, f) refl
 
   none-block : (need : ℕ) (L : Layout) → fit need (L .blocks) ≡ none → aBlock S need L (fit need (L .blocks)) ≡ none
   unfolding aBlock
@@ -95,7 +95,7 @@ module _ (S : Shape) where
   no-room end n L v some-byte per = (there, back (decLe n (largestItem S)))
     where
       small : n ≤ largestItem S → allocate S n L ≡ none → (getD (L .lists) (classOf n) [] ≡ []) × (fit (pageNeed S (classOf n)) (L .blocks) ≡ none)
-      small l e = item-none (classOf n) L (omega (arith, v .classes)) (per (classOf n)) (getD (L .lists) (classOf n) []) (rw (le-leb n (largestItem S) l) at e)
+      small l e = item-none n (classOf n) L (omega (arith, v .classes)) (per (classOf n)) (getD (L .lists) (classOf n) []) (rw (le-leb n (largestItem S) l) at e)
 
       there : allocate S n L ≡ none → NoRoom S n L
       there e = (
@@ -104,5 +104,5 @@ module _ (S : Shape) where
       )
 
       back : Dec (n ≤ largestItem S) → NoRoom S n L → allocate S n L ≡ none
-      back (yes l) h = rw (le-leb n (largestItem S) l) (none-item (classOf n) L (h .0 l .0) (none-fits (pageNeed S (classOf n)) (L .blocks) (h .0 l .1)))
+      back (yes l) h = rw (le-leb n (largestItem S) l) (none-item n (classOf n) L (h .0 l .0) (none-fits (pageNeed S (classOf n)) (L .blocks) (h .0 l .1)))
       back (no l) h = rw (lt-leb n (largestItem S) (omega arith)) (none-block (needOf S n) L (none-fits (needOf S n) (L .blocks) (h .1 (omega arith))))

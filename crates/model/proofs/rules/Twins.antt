@@ -115,28 +115,28 @@ module _ (S : Shape) where
   Mades (some m) none = ⊥
   Mades (some m) (some k) = (m .at ≡ k .at) × TwinLayouts (m .layout) (k .layout)
 
-  list-twins : (c : ℕ) {L M : Layout} → TwinLayouts L M → (l : List ℕ) → Mades (fromList S c L l) (fromList S c M l)
+  list-twins : (n c : ℕ) {L M : Layout} → TwinLayouts L M → (l : List ℕ) → Mades (fromList S n c L l) (fromList S n c M l)
   unfolding fromList Mades
-  list-twins c w [] = tt
-  list-twins c w (o ∷ os) = (refl, record { blocks = item-twins held (itemAt S o) (start S) (w .blocks); lists = ap (λ (ls : List (List ℕ)). set ls c os) (w .lists) })
+  list-twins n c w [] = tt
+  list-twins n c w (o ∷ os) = (refl, record { blocks = item-twins (held n) (itemAt S o) (start S) (w .blocks); lists = ap (λ (ls : List (List ℕ)). set ls c os) (w .lists) })
 
   page-alike : (c s t : ℕ) → Alike (pageOf S c s) (pageOf S c t)
   page-alike c s t = pages c (s - pageNeed S c) (t - pageNeed S c) (replicate (S .perPage c) idle)
 
-  page-twins : (c : ℕ) {L M : Layout} → TwinLayouts L M → (o p : Option Spot) → Spots (pageNeed S c) (pageOf S c) (page-size S c) (page-alike c) o p → Mades (fromPage S c L o) (fromPage S c M p)
+  page-twins : (n c : ℕ) {L M : Layout} → TwinLayouts L M → (o p : Option Spot) → Spots (pageNeed S c) (pageOf S c) (page-size S c) (page-alike c) o p → Mades (fromPage S n c L o) (fromPage S n c M p)
   unfolding Spots fromPage Mades
-  page-twins c w none p h = tt
-  page-twins c w (some t) none h = absurd h
-  page-twins c {L} {M} w (some t) (some u) h =
+  page-twins n c w none p h = tt
+  page-twins n c w (some t) none h = absurd h
+  page-twins n c {L} {M} w (some t) (some u) h =
       let e : paged S c t L .lists ≡ paged S c u M .lists =
       ap₂ (λ (ls : List (List ℕ)) (pre : List Block). set ls c (idleSlots S c (ends S (start S) pre + S .word) (replicate (S .perPage c) idle))) (w .lists) (h .0) in
-      subst (λ (ls : List (List ℕ)). Mades (fromList S c (paged S c t L) (getD (paged S c t L .lists) c [])) (fromList S c (paged S c u M) (getD ls c []))) e
-      (list-twins c (record { blocks = h .1; lists = e }) (getD (paged S c t L .lists) c []))
+      subst (λ (ls : List (List ℕ)). Mades (fromList S n c (paged S c t L) (getD (paged S c t L .lists) c [])) (fromList S n c (paged S c u M) (getD ls c []))) e
+      (list-twins n c (record { blocks = h .1; lists = e }) (getD (paged S c t L .lists) c []))
 
-  anItem-twins : (c : ℕ) {L M : Layout} → TwinLayouts L M → (l : List ℕ) → Mades (anItem S c L l) (anItem S c M l)
+  anItem-twins : (n c : ℕ) {L M : Layout} → TwinLayouts L M → (l : List ℕ) → Mades (anItem S n c L l) (anItem S n c M l)
   unfolding anItem
-  anItem-twins c {L} {M} w [] = page-twins c w (fit (pageNeed S c) (L .blocks)) (fit (pageNeed S c) (M .blocks)) (fit-twins (pageNeed S c) (pageOf S c) (page-size S c) (page-alike c) (w .blocks))
-  anItem-twins c w (o ∷ os) = list-twins c w (o ∷ os)
+  anItem-twins n c {L} {M} w [] = page-twins n c w (fit (pageNeed S c) (L .blocks)) (fit (pageNeed S c) (M .blocks)) (fit-twins (pageNeed S c) (pageOf S c) (page-size S c) (page-alike c) (w .blocks))
+  anItem-twins n c w (o ∷ os) = list-twins n c w (o ∷ os)
 
   variable-fits : (need s : ℕ) → need ≤ s → useSize S (variable s) ≡ s
   unfolding useSize
@@ -152,27 +152,27 @@ module _ (S : Shape) where
   unfolding allocate
   allocate-twins n {L} {M} w = go (leb n (largestItem S))
     where
-      small : Mades (anItem S (classOf n) L (getD (L .lists) (classOf n) [])) (anItem S (classOf n) M (getD (M .lists) (classOf n) []))
+      small : Mades (anItem S n (classOf n) L (getD (L .lists) (classOf n) [])) (anItem S n (classOf n) M (getD (M .lists) (classOf n) []))
       small =
-          subst (λ (ls : List (List ℕ)). Mades (anItem S (classOf n) L (getD (L .lists) (classOf n) [])) (anItem S (classOf n) M (getD ls (classOf n) []))) (w .lists)
-          (anItem-twins (classOf n) w (getD (L .lists) (classOf n) []))
+          subst (λ (ls : List (List ℕ)). Mades (anItem S n (classOf n) L (getD (L .lists) (classOf n) [])) (anItem S n (classOf n) M (getD ls (classOf n) []))) (w .lists)
+          (anItem-twins n (classOf n) w (getD (L .lists) (classOf n) []))
 
       go : (y : Bool)
-          → Mades (cond y (anItem S (classOf n) L (getD (L .lists) (classOf n) [])) (aBlock S (needOf S n) L (fit (needOf S n) (L .blocks))))
-          (cond y (anItem S (classOf n) M (getD (M .lists) (classOf n) [])) (aBlock S (needOf S n) M (fit (needOf S n) (M .blocks))))
+          → Mades (cond y (anItem S n (classOf n) L (getD (L .lists) (classOf n) [])) (aBlock S (needOf S n) L (fit (needOf S n) (L .blocks))))
+          (cond y (anItem S n (classOf n) M (getD (M .lists) (classOf n) [])) (aBlock S (needOf S n) M (fit (needOf S n) (M .blocks))))
       go true = small
       go false = block-twins (needOf S n) w (fit (needOf S n) (L .blocks)) (fit (needOf S n) (M .blocks)) (fit-twins (needOf S n) variable (variable-fits (needOf S n)) variables (w .blocks))
 
   -- what stands at an address: the same, and the blocks that are left without it are twins
   unfoldable pub Founds : Found → Found → Type 0
   Founds (block t) (block u) = Twins (released t) (released u)
-  Founds (block t) (thing p d) = ⊥
+  Founds (block t) (thing p d m) = ⊥
   Founds (block t) nothing = ⊥
-  Founds (thing o c) (block u) = ⊥
-  Founds (thing o c) (thing p d) = (o ≡ p) × (c ≡ d)
-  Founds (thing o c) nothing = ⊥
+  Founds (thing o c n) (block u) = ⊥
+  Founds (thing o c n) (thing p d m) = (o ≡ p) × (c ≡ d)
+  Founds (thing o c n) nothing = ⊥
   Founds nothing (block u) = ⊥
-  Founds nothing (thing p d) = ⊥
+  Founds nothing (thing p d m) = ⊥
   Founds nothing nothing = Unit {0}
 
   before-twins : (b : Block) {bs cs : List Block} → Twins bs cs → Twins (before b bs) (before b cs)
@@ -187,35 +187,35 @@ module _ (S : Shape) where
   behind-twins : (b : Block) (f g : Found) → Founds f g → Founds (behind b f) (behind b g)
   unfolding Founds inFront
   behind-twins b (block t) (block u) w = before-twins b w
-  behind-twins b (block t) (thing p d) w = absurd w
+  behind-twins b (block t) (thing p d m) w = absurd w
   behind-twins b (block t) nothing w = absurd w
-  behind-twins b (thing o c) (block u) w = absurd w
-  behind-twins b (thing o c) (thing p d) w = w
-  behind-twins b (thing o c) nothing w = absurd w
+  behind-twins b (thing o c n) (block u) w = absurd w
+  behind-twins b (thing o c n) (thing p d m) w = w
+  behind-twins b (thing o c n) nothing w = absurd w
   behind-twins b nothing (block u) w = absurd w
-  behind-twins b nothing (thing p d) w = absurd w
+  behind-twins b nothing (thing p d m) w = absurd w
   behind-twins b nothing nothing w = w
 
   or-twins : (f g f′ g′ : Found) → Founds f f′ → Founds g g′ → Founds (orElse f g) (orElse f′ g′)
   unfolding Founds
   or-twins (block t) g (block u) g′ w v = w
-  or-twins (block t) g (thing p d) g′ w v = absurd w
+  or-twins (block t) g (thing p d m) g′ w v = absurd w
   or-twins (block t) g nothing g′ w v = absurd w
-  or-twins (thing o c) g (block u) g′ w v = absurd w
-  or-twins (thing o c) g (thing p d) g′ w v = w
-  or-twins (thing o c) g nothing g′ w v = absurd w
+  or-twins (thing o c n) g (block u) g′ w v = absurd w
+  or-twins (thing o c n) g (thing p d m) g′ w v = w
+  or-twins (thing o c n) g nothing g′ w v = absurd w
   or-twins nothing g (block u) g′ w v = absurd w
-  or-twins nothing g (thing p d) g′ w v = absurd w
+  or-twins nothing g (thing p d m) g′ w v = absurd w
   or-twins nothing g nothing g′ w v = v
 
   slots-twins : (a c p : ℕ) (ss : List Slot) → Founds (inSlots S a c p ss) (inSlots S a c p ss)
   unfolding inSlots
   slots-twins a c p [] = unfold Founds in tt
   slots-twins a c p (idle ∷ ss) = slots-twins a c (p + itemSize S c) ss
-  slots-twins a c p (held ∷ ss) = go (eqb a (addressOf S p)) (slots-twins a c (p + itemSize S c) ss)
+  slots-twins a c p (held n ∷ ss) = go (eqb a (addressOf S p)) (slots-twins a c (p + itemSize S c) ss)
     where
       go : (y : Bool) → Founds (inSlots S a c (p + itemSize S c) ss) (inSlots S a c (p + itemSize S c) ss)
-          → Founds (cond y (thing (offsetOf S p) c) (inSlots S a c (p + itemSize S c) ss)) (cond y (thing (offsetOf S p) c) (inSlots S a c (p + itemSize S c) ss))
+          → Founds (cond y (thing (offsetOf S p) c n) (inSlots S a c (p + itemSize S c) ss)) (cond y (thing (offsetOf S p) c n) (inSlots S a c (p + itemSize S c) ss))
       go true r = unfold Founds in (refl, refl)
       go false r = r
 
@@ -278,13 +278,13 @@ module _ (S : Shape) where
     where
       go : (f g : Found) → find S a L ≡ f → find S a M ≡ g → Founds f g → SameDone (doing S (freeing a) L) (doing S (freeing a) M)
       go (block t) (block u) e f h = rw (e, f) (record { refusal = refl; address = refl; layouts = record { blocks = h; lists = w .lists } })
-      go (block t) (thing p d) e f h = absurd h
+      go (block t) (thing p d m) e f h = absurd h
       go (block t) nothing e f h = absurd h
-      go (thing o c) (block u) e f h = absurd h
-      go (thing o c) (thing p d) e f h = rw (e, f) (record { refusal = refl; address = refl; layouts = pushed-twins o c p d w (h .0) (h .1) })
-      go (thing o c) nothing e f h = absurd h
+      go (thing o c n) (block u) e f h = absurd h
+      go (thing o c n) (thing p d m) e f h = rw (e, f) (record { refusal = refl; address = refl; layouts = pushed-twins o c p d w (h .0) (h .1) })
+      go (thing o c n) nothing e f h = absurd h
       go nothing (block u) e f h = absurd h
-      go nothing (thing p d) e f h = absurd h
+      go nothing (thing p d m) e f h = absurd h
       go nothing nothing e f h = rw (e, f) (record { refusal = refl; address = refl; layouts = w })
 
   pub doing-twins : (q : Call) → Plain S q → {L M : Layout} → TwinLayouts L M → (doing S q L .refusal ≡ noRoom → ⊥) → SameDone (doing S q L) (doing S q M)

@@ -37,7 +37,7 @@ pub held-few : (ss : List Slot) → heldIn ss ≤ length ss
 unfolding heldIn
 held-few [] = omega arith
 held-few (idle ∷ ss) = omega (arith, held-few ss)
-held-few (held ∷ ss) = omega (arith, held-few ss)
+held-few (held n ∷ ss) = omega (arith, held-few ss)
 
 -- a number that is no greater than each block's size sums up to no more than the blocks take
 module _ {w : ℕ} (wd : Width w) where

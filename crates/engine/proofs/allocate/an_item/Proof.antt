@@ -31,13 +31,13 @@ word-requires : tie.Need-word-requires
 word-requires c κs = (c .before .before .before .pre .ready .width, omega (arith, c .head-at .ensures .1, ready-long (c .before .before .before .pre .ready)))
 
 take-requires : tie.Need-take-requires
-take-requires c κs = has-item (c .before .before .before .before .before .before .pre .ready) (c .before .before .before .before .before .before .pre .class) (λ z. omega (arith, z, head (c .before .before), c .before .if1 .taken))
+take-requires c κs = has-item (c .before .before .before .before .before .before .pre .ready) (c .before .before .before .before .before .before .pre .class) (c .before .before .before .before .before .before .pre .own) (λ z. omega (arith, z, head (c .before .before), c .before .if1 .taken))
 
 same-length : tie.Need-same-length
 same-length c = search needs
 
 returns : tie.Need-returns
-returns c = item-given (c .before .before .before .before .before .before .before .before .before .pre .ready) (c .before .before .before .before .before .before .before .before .before .pre .class) _ _ (λ z. omega (arith, z, head (c .before .before .before .before .before), c .before .before .before .before .if1 .taken)) (c .before .before .take .ensures)
+returns c = item-given (c .before .before .before .before .before .before .before .before .before .pre .ready) (c .before .before .before .before .before .before .before .before .before .pre .class) (c .before .before .before .before .before .before .before .before .before .pre .own) _ _ (λ z. omega (arith, z, head (c .before .before .before .before .before), c .before .before .before .before .if1 .taken)) (c .before .before .take .ensures)
 
 items-in-page-requires : tie.Need-items-in-page-requires
 items-in-page-requires c κs = search needs
@@ -58,13 +58,13 @@ make-requires : tie.Need-make-requires
 make-requires c κs = ((spotted (c .before .before .before .before .before .before .before .before .before .before .before .before .pre .ready) _ _ (found (c .before .before .before)) (c .before .if2 .left)), (no-item (c .before .before .before .before .before .before .before .before .before .before .before .before .pre .ready) (c .before .before .before .before .before .before .before .before .before .before .before .before .pre .class) (sym (head (c .before .before .before .before .before .before .before .before)) ∙ c .before .before .before .before .before .before .before .if1 .left), c .before .before .before .before .before .before .items-in-page .ensures))
 
 take-requires-2 : tie.Need-take-requires-2
-take-requires-2 c κs = made-item (c .before .before .before .before .before .before .before .before .before .before .before .before .before .before .before .before .pre .ready) (c .before .before .before .before .before .before .before .before .before .before .before .before .before .before .before .before .pre .class) (sym (head (c .before .before .before .before .before .before .before .before .before .before .before .before)) ∙ c .before .before .before .before .before .before .before .before .before .before .before .if1 .left) _ _ (c .before .before .before .make .ensures) (spotted (c .before .before .before .before .before .before .before .before .before .before .before .before .before .before .before .before .pre .ready) _ _ (found (c .before .before .before .before .before .before .before)) (c .before .before .before .before .before .if2 .left))
+take-requires-2 c κs = made-item (c .before .before .before .before .before .before .before .before .before .before .before .before .before .before .before .before .pre .ready) (c .before .before .before .before .before .before .before .before .before .before .before .before .before .before .before .before .pre .class) (sym (head (c .before .before .before .before .before .before .before .before .before .before .before .before)) ∙ c .before .before .before .before .before .before .before .before .before .before .before .if1 .left) _ _ (c .before .before .before .make .ensures) (c .before .before .before .before .before .before .before .before .before .before .before .before .before .before .before .before .pre .own) (spotted (c .before .before .before .before .before .before .before .before .before .before .before .before .before .before .before .before .pre .ready) _ _ (found (c .before .before .before .before .before .before .before)) (c .before .before .before .before .before .if2 .left))
 
 same-length-3 : tie.Need-same-length-3
 same-length-3 c = search needs
 
 returns-3 : tie.Need-returns-3
-returns-3 c = page-given (c .before .before .before .before .before .before .before .before .before .before .before .before .before .before .before .before .before .before .before .pre .ready) (c .before .before .before .before .before .before .before .before .before .before .before .before .before .before .before .before .before .before .before .pre .class) (sym (head (c .before .before .before .before .before .before .before .before .before .before .before .before .before .before .before)) ∙ c .before .before .before .before .before .before .before .before .before .before .before .before .before .before .if1 .left) _ _ (c .before .before .before .before .before .before .make .ensures) (found (c .before .before .before .before .before .before .before .before .before .before)) (c .before .before .before .before .before .before .before .before .if2 .left) _ _ (c .before .before .take2 .ensures) (λ i. c .before .before .before .before .before .before .before .before .before .before .before .before .before .before .before .before .before .before .slice-known .given i .fits)
+returns-3 c = page-given (c .before .before .before .before .before .before .before .before .before .before .before .before .before .before .before .before .before .before .before .pre .ready) (c .before .before .before .before .before .before .before .before .before .before .before .before .before .before .before .before .before .before .before .pre .class) (sym (head (c .before .before .before .before .before .before .before .before .before .before .before .before .before .before .before)) ∙ c .before .before .before .before .before .before .before .before .before .before .before .before .before .before .if1 .left) _ _ (c .before .before .before .before .before .before .make .ensures) (c .before .before .before .before .before .before .before .before .before .before .before .before .before .before .before .before .before .before .before .pre .own) (found (c .before .before .before .before .before .before .before .before .before .before)) (c .before .before .before .before .before .before .before .before .if2 .left) _ _ (c .before .before .take2 .ensures) (λ i. c .before .before .before .before .before .before .before .before .before .before .before .before .before .before .before .before .before .before .slice-known .given i .fits)
 
 pub an-item-spec : {M : Type 1} → statement M
 an-item-spec =

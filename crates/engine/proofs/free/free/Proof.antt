@@ -18,7 +18,7 @@ enum-known-x : tie.Need-enum-known-x
 enum-known-x c = search needs
 
 give-requires : tie.Need-give-requires
-give-requires c κs = item-live _ _ (c .before .before .before .before .before .before .before .pre) _ (c .before .before .before .before .find .ensures) _ _ (c .before .before .x .given .1)
+give-requires c κs = item-live _ _ (c .before .before .before .before .before .before .before .pre) _ (c .before .before .before .before .find .ensures) _ _ _ (c .before .before .x .given .1)
 
 enum-known-x-2 : tie.Need-enum-known-x-2
 enum-known-x-2 c = search needs
@@ -36,7 +36,7 @@ same-length-2 : tie.Need-same-length-2
 same-length-2 c = search needs
 
 returns-2 : tie.Need-returns-2
-returns-2 c = free-item _ _ (c .before .before .before .before .before .before .before .before .before .before .pre) _ (c .before .before .before .before .before .before .before .find .ensures) _ _ (c .before .before .before .before .before .x .given .1) _ (c .before .before .give .ensures)
+returns-2 c = free-item _ _ (c .before .before .before .before .before .before .before .before .before .before .pre) _ (c .before .before .before .before .before .before .before .find .ensures) _ _ _ (c .before .before .before .before .before .x .given .1) _ (c .before .before .give .ensures)
 
 same-length-3 : tie.Need-same-length-3
 same-length-3 c = search needs

@@ -8,7 +8,7 @@ use Rattle.heap.proofs.lookup.held_at.Reads as reads
 use Rattle.heap.proofs.lookup.held_at.Lts as lts
 use Rattle.heap.proofs.examine.Reads as examine-reads
 use Rattle.heap.proofs.refusal_number.Reads as refusal-number-reads
-use Rattle.holding.proofs.capacity.Reads as capacity-reads
+use Rattle.holding.proofs.shown.Reads as shown-reads
 
 examine-requires : tie.Need-examine-requires
 examine-requires c κs = search needs
@@ -22,20 +22,20 @@ refusal-number-requires c κs = search needs
 enum-told : tie.Need-enum-told
 enum-told c = search needs
 
-capacity-requires : tie.Need-capacity-requires
-capacity-requires c κs = (eight, ready _ _ (c .before .before .examine .ensures) (c .enum-told .given .1) .sound)
+shown-requires : tie.Need-shown-requires
+shown-requires c κs = (eight, ready _ _ (c .before .before .examine .ensures) (c .enum-told .given .1) .sound)
 
 refusal-number-requires-2 : tie.Need-refusal-number-requires-2
 refusal-number-requires-2 c κs = search needs
 
 returns : tie.Need-returns
-returns c = held-none _ _ _ (c .before .before .before .before .before .examine .ensures) (c .before .before .before .enum-told .given .1) _ (c .before .before .capacity .ensures) (c .before .if1 .taken) _ (c .refusal-number2 .ensures .0)
+returns c = held-none _ _ _ (c .before .before .before .before .before .examine .ensures) (c .before .before .before .enum-told .given .1) _ (c .before .before .shown .ensures) (c .before .if1 .taken) _ (c .refusal-number2 .ensures .0)
 
 returns-2 : tie.Need-returns-2
 returns-2 c = held-refused _ _ _ (c .before .before .before .before .examine .ensures) _ (c .before .before .v .given .1) _ (c .refusal-number .ensures .0)
 
 returns-3 : tie.Need-returns-3
-returns-3 c = held-some _ _ _ (c .before .before .before .before .examine .ensures) (c .before .before .enum-told .given .1) _ (c .before .capacity .ensures) (c .if1 .left)
+returns-3 c = held-some _ _ _ (c .before .before .before .before .examine .ensures) (c .before .before .enum-told .given .1) _ (c .before .shown .ensures) (c .if1 .left)
 
 pub held-at-spec : {M : Type 1} → statement M
 held-at-spec =
@@ -45,7 +45,7 @@ held-at-spec =
     enum-known-v
     refusal-number-requires
     enum-told
-    capacity-requires
+    shown-requires
     refusal-number-requires-2
     returns
     returns-2

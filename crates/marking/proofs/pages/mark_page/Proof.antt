@@ -3,7 +3,7 @@ use native.Mathlib.Omega.{arith}
 use borrow.Author.Needs.{needs}
 use Rattle.model.specs.Shape.{shape, leastFree}
 use Rattle.model.proofs.Sizes.{page-product}
-use Rattle.marking.proofs.PageLaws.{page-tiny, page-misfit, page-fits, page-stop, page-room, page-told}
+use Rattle.marking.proofs.PageLaws.{page-tiny, page-misfit, page-fits, page-stop, page-room, page-items, page-near, page-told}
 use Rattle.marking.proofs.pages.mark_page.Statement.{statement}
 use Rattle.marking.proofs.pages.mark_page.Tie as tie
 
@@ -59,17 +59,17 @@ div-stop c = search needs
 add-stop : tie.Need-add-stop
 add-stop c = omega (arith, page-stop (c .before .before .before .before .before .before .before .before .before .before .before .before .before .before .before .pre) _ _ _ _ (c .before .before .before .before .before .before .before .before .before .before .first-item-at .ensures) (c .before .before .before .before .before .before .before .before .before .word .ensures) (c .before .before .before .before .before .before .before .before .class-in .ensures .0) (c .before .before .before .before .before .before .page-need .ensures) _ _ (c .before .before .before .before .before .before .before .items-in-page .ensures) (c .item-size .ensures) (fits (c .before .before .before) .0) _ _ (c .before .before .offset-of .ensures) (c .before .offset-bit .ensures))
 
-add-mark-items : tie.Need-add-mark-items
-add-mark-items c = search needs
-
 mark-items-requires : tie.Need-mark-items-requires
 mark-items-requires c κs = page-room (c .before .before .before .before .before .before .before .before .before .before .before .before .before .before .before .before .pre) _ _ _ _ (c .before .before .before .before .before .before .before .before .before .before .before .first-item-at .ensures) (c .before .before .before .before .before .before .before .before .before .before .word .ensures) (c .before .before .before .before .before .before .before .before .before .class-in .ensures .0) (c .before .before .before .before .before .before .before .page-need .ensures) _ _ (c .before .before .before .before .before .before .before .before .items-in-page .ensures) (c .before .item-size .ensures) (fits (c .before .before .before .before) .0) _ _ (c .before .before .before .offset-of .ensures) (c .before .before .offset-bit .ensures)
+
+judge-requires : tie.Need-judge-requires
+judge-requires c κs = (page-items (c .before .before .before .before .before .before .before .before .before .before .before .before .before .before .before .before .before .before .before .pre) _ _ _ _ (c .before .before .before .before .before .before .before .before .before .before .before .before .before .before .first-item-at .ensures) (c .before .before .before .before .before .before .before .before .before .before .before .before .before .word .ensures) (c .before .before .before .before .before .before .before .before .before .before .before .before .class-in .ensures .0) (c .before .before .before .before .before .before .before .before .before .before .page-need .ensures) _ _ (c .before .before .before .before .before .before .before .before .before .before .before .items-in-page .ensures) (c .before .before .before .before .item-size .ensures) (fits (c .before .before .before .before .before .before .before) .0) _ _ (c .before .before .before .before .before .before .offset-of .ensures) (c .before .before .before .before .before .offset-bit .ensures), page-near (c .before .before .before .before .before .before .before .before .before .before .before .before .before .before .before .before .before .before .before .pre) _ _ _ _ (c .before .before .before .before .before .before .before .before .before .before .before .before .before .before .first-item-at .ensures) (c .before .before .before .before .before .before .before .before .before .before .before .before .before .word .ensures) (c .before .before .before .before .before .before .before .before .before .before .before .before .class-in .ensures .0) (c .before .before .before .before .before .before .before .before .before .before .page-need .ensures) _ _ (c .before .before .before .before .before .before .before .before .before .before .before .items-in-page .ensures) (c .before .before .before .before .item-size .ensures) (fits (c .before .before .before .before .before .before .before) .0) _ _ (c .before .before .before .before .before .before .offset-of .ensures) (c .before .before .before .before .before .offset-bit .ensures) _ _ (c .before .before .mark-items .ensures))
 
 same-length : tie.Need-same-length
 same-length c = search needs
 
 returns-3 : tie.Need-returns-3
-returns-3 c = page-told (c .before .before .before .before .before .before .before .before .before .before .before .before .before .before .before .before .before .before .before .pre) _ _ _ _ (c .before .before .before .before .before .before .before .before .before .before .before .before .before .before .first-item-at .ensures) (c .before .before .before .before .before .before .before .before .before .before .before .before .before .word .ensures) (c .before .before .before .before .before .before .before .before .before .before .before .before .class-in .ensures .0) (c .before .before .before .before .before .before .before .before .before .before .page-need .ensures) _ _ (c .before .before .before .before .before .before .before .before .before .before .before .items-in-page .ensures) (c .before .before .before .before .item-size .ensures) (fits (c .before .before .before .before .before .before .before) .0) _ _ (c .before .before .before .before .before .before .offset-of .ensures) (c .before .before .before .before .before .offset-bit .ensures) (fits (c .before .before .before .before .before .before .before) .1) _ _ (c .before .before .mark-items .ensures)
+returns-3 c = page-told (c .before .before .before .before .before .before .before .before .before .before .before .before .before .before .before .before .before .before .before .before .pre) _ _ _ _ (c .before .before .before .before .before .before .before .before .before .before .before .before .before .before .before .first-item-at .ensures) (c .before .before .before .before .before .before .before .before .before .before .before .before .before .before .word .ensures) (c .before .before .before .before .before .before .before .before .before .before .before .before .before .class-in .ensures .0) (c .before .before .before .before .before .before .before .before .before .before .before .page-need .ensures) _ _ (c .before .before .before .before .before .before .before .before .before .before .before .before .items-in-page .ensures) (c .before .before .before .before .before .item-size .ensures) (fits (c .before .before .before .before .before .before .before .before) .0) _ _ (c .before .before .before .before .before .before .before .offset-of .ensures) (c .before .before .before .before .before .before .offset-bit .ensures) _ _ (c .before .before .before .mark-items .ensures) (fits (c .before .before .before .before .before .before .before .before) .1) _ (c .judge .ensures)
 
 pub mark-page-spec : {M : Type 1} → statement M
 mark-page-spec =
@@ -91,7 +91,7 @@ mark-page-spec =
     mul-stop
     div-stop
     add-stop
-    add-mark-items
     mark-items-requires
+    judge-requires
     same-length
     returns-3)

@@ -19,19 +19,19 @@ item-size-requires : tie.Need-item-size-requires Inv-loop μ-loop
 item-size-requires c κs = search needs
 
 loop-holds : tie.Need-loop-holds Inv-loop μ-loop
-loop-holds c = held-start (c .before .before .pre .0) _ _ _ _ _ (c .before .before .pre .1) (c .before .before .pre .2) (c .before .before .pre .3) (c .item-size .ensures)
+loop-holds c = held-start (c .before .before .pre .0) _ _ _ _ _ (c .before .before .pre .2) (c .before .before .pre .3) (c .item-size .ensures)
 
 word-requires : tie.Need-word-requires Inv-loop μ-loop
 word-requires c κs = omega (arith, held-inside (c .before .loop .inv) (c .loop-test .taken))
 
-held-header-requires : tie.Need-held-header-requires Inv-loop μ-loop
-held-header-requires c κs = search needs
+flags-in-requires : tie.Need-flags-in-requires Inv-loop μ-loop
+flags-in-requires c κs = search needs
 
 one-if-requires : tie.Need-one-if-requires Inv-loop μ-loop
 one-if-requires c κs = search needs
 
 add-held : tie.Need-add-held Inv-loop μ-loop
-add-held c = omega (arith, held-bound (held-again (c .before .before .before .before .loop .inv) (c .before .before .before .loop-test .taken) _ _ _ (c .before .before .word .ensures) (c .before .held-header .ensures) (c .one-if .ensures)))
+add-held c = omega (arith, held-bound (held-again (c .before .before .before .before .loop .inv) (c .before .before .before .loop-test .taken) _ _ _ (c .before .before .word .ensures) (c .before .flags-in .ensures) (c .one-if .ensures)))
 
 add-t13 : tie.Need-add-t13 Inv-loop μ-loop
 add-t13 c = omega (arith, held-next (c .before .before .before .before .before .loop .inv) (c .before .before .before .before .loop-test .taken))
@@ -43,7 +43,7 @@ loop-less : tie.Need-loop-less Inv-loop μ-loop
 loop-less c = search needs
 
 loop-again : tie.Need-loop-again Inv-loop μ-loop
-loop-again c = held-again (c .before .before .before .before .before .loop .inv) (c .before .before .before .before .loop-test .taken) _ _ _ (c .before .before .before .word .ensures) (c .before .before .held-header .ensures) (c .before .one-if .ensures)
+loop-again c = held-again (c .before .before .before .before .before .loop .inv) (c .before .before .before .before .loop-test .taken) _ _ _ (c .before .before .before .word .ensures) (c .before .before .flags-in .ensures) (c .before .one-if .ensures)
 
 returns : tie.Need-returns Inv-loop μ-loop
 returns c = held-done (c .before .loop .inv) (c .loop-test .left)
@@ -57,7 +57,7 @@ count-held-spec =
     item-size-requires
     loop-holds
     word-requires
-    held-header-requires
+    flags-in-requires
     one-if-requires
     add-held
     add-t13

@@ -18,7 +18,7 @@ enum-known-x : tie.Need-enum-known-x
 enum-known-x c = search needs
 
 move-item-requires : tie.Need-move-item-requires
-move-item-requires c κs = (item-at _ _ (c .before .before .before .before .before .before .before .pre .0) _ (c .before .before .before .before .find .ensures) _ _ (c .before .before .x .given .1), c .before .before .before .before .before .before .before .pre .1)
+move-item-requires c κs = (item-at _ _ (c .before .before .before .before .before .before .before .pre .0) _ (c .before .before .before .before .find .ensures) _ _ _ (c .before .before .x .given .1), c .before .before .before .before .before .before .before .pre .1)
 
 enum-known-x-2 : tie.Need-enum-known-x-2
 enum-known-x-2 c = search needs

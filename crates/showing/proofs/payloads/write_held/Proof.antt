@@ -13,11 +13,11 @@ use Rattle.showing.proofs.payloads.write_payload.Reads as write-payload
 enum-told : tie.Need-enum-told
 enum-told c = search needs
 
-address-of-requires : tie.Need-address-of-requires
-address-of-requires c κs = search needs
-
 block-capacity-requires : tie.Need-block-capacity-requires
 block-capacity-requires c κs = search needs
+
+address-of-requires : tie.Need-address-of-requires
+address-of-requires c κs = search needs
 
 write-payload-requires : tie.Need-write-payload-requires
 write-payload-requires c κs = search needs
@@ -45,8 +45,8 @@ write-held-spec =
     tie.close
     (tie.spec
     enum-told
-    address-of-requires
     block-capacity-requires
+    address-of-requires
     write-payload-requires
     enum-known-kind
     first-item-at-requires
