@@ -10,6 +10,7 @@ library puts the twin on both sides.
 """
 
 import argparse
+import itertools
 import os
 import random
 import subprocess
@@ -61,8 +62,17 @@ def full_of_blocks(length):
 
 
 def full_of_items(length):
-    """A block, and then items of the smallest class; half of them is freed."""
-    return filled(length, 600, lambda rng: 8, 2)
+    """A block, and then items of the smallest class, for its sizes in turn; half of them is freed."""
+    sizes = itertools.cycle(range(1, 9))
+    return filled(length, 600, lambda rng: next(sizes), 2)
+
+
+def full_of_older_items(length):
+    """The same, from before sizes were kept."""
+    heap = full_of_items(length)
+    heap.state.asked.clear()
+    heap.lay_out_whole()
+    return heap
 
 
 def mixed(length):
@@ -72,6 +82,7 @@ def mixed(length):
 
 KINDS = {"empty": fresh, "nearly empty": nearly_empty, "full of blocks": full_of_blocks, "full of items": full_of_items,
          "mixed": mixed}
+CHECKED = {"full of older items": full_of_older_items}  # what the check alone is measured on
 
 
 def last(items):
@@ -122,7 +133,7 @@ def staying(heap):
     state = heap.state
     item, block = last(state.item_class), block_with(heap, lambda p, size: True)
     if item:
-        yield "an item, it stays", item + 8, 8 * state.item_class[item] + 8
+        yield "an item, it stays", item + 8, 8 * state.item_class[item] + 1  # with another size in its header
     if block:
         yield "a block, it stays", block, state.capacity(block)
     block = block_with(heap, lambda p, size: size >= 280 + 40)
@@ -210,10 +221,10 @@ def comes_out(heap, name, call, address, size):
     return refusal == wanted and bool(trial.kept) == name.endswith(KEPT)
 
 
-def calls_on(heap):
+def calls_on(kind, heap):
     """What is measured on a heap: (name, call, address, size), only what ends as its name says."""
     yield "check", "check", 0, 0
-    for sort in (allocations, frees, resizes, resizes_in_place, moves):
+    for sort in () if kind in CHECKED else (allocations, frees, resizes, resizes_in_place, moves):
         yield from (row for row in sort(heap) if comes_out(heap, *row))
 
 
@@ -252,10 +263,10 @@ def rows(program, sizes):
     """(length, kind of heap, name of the call, ours, the twin's)"""
     for length in sizes:
         yield length, "not opened", "initialise", *count(program, saved("zeros.heap", bytes(length)), "initialise", 0, 0)
-        for kind, make in KINDS.items():
+        for kind, make in (KINDS | CHECKED).items():
             heap = make(length)
             path = saved(f"{kind.replace(' ', '-')}-{length}.heap", heap.data)
-            for name, call, address, size in calls_on(heap):
+            for name, call, address, size in calls_on(kind, heap):
                 yield length, kind, name, *count(program, path, call, address, size)
 
 

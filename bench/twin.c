@@ -132,9 +132,27 @@ static uint64_t free_header(uint64_t class, uint64_t next)
     return 16 * next + 4 * class + 1;
 }
 
-static uint64_t used_header(uint64_t class)
+/* The size is 0 where it is not known, as in heaps from before it was kept. */
+static uint64_t used_header(uint64_t class, uint64_t size)
 {
-    return 4 * class + 3;
+    return 128 * size + 4 * class + 3;
+}
+
+static uint64_t asked_in(uint64_t header)
+{
+    return header / 128;
+}
+
+/* Whether a header that is so far above the one for the least size of a class is of a size of that class. The
+   differences of many headers may be or-ed first. */
+static bool same_class(uint64_t above)
+{
+    return above % 128 + above / 1024 == 0;
+}
+
+static uint64_t least_header(uint64_t class)
+{
+    return used_header(class, 8 * class + 1);
 }
 
 static uint64_t head_of(const uint8_t *h, uint64_t class)
@@ -186,34 +204,50 @@ static void clear_to(struct marks *marks, uint64_t bit)
     marks->top = 64 * words;
 }
 
-/* Whether a page of so many words is right; marks its free items: all but those in use, and counts these
-   off. What a free item's header has besides the next item is judged once, of all together. */
-static bool page_right(const uint8_t *h, uint64_t page, uint64_t words, struct marks *marks)
+/* Whether each item in use of a page has a size of its class, or one that is not known. */
+static bool sizes_right(const uint8_t *h, uint64_t page, uint64_t class)
+{
+    uint64_t position = page + 8;
+
+    for (uint64_t left = items_in_page(class); left != 0; left--) {
+        uint64_t header = get(h, position);
+        if (header & 2 && header != used_header(class, 0) && !same_class(header - least_header(class)))
+            return false;
+        position += item_size(class);
+    }
+    return true;
+}
+
+/* Whether a page of so many words is right; marks its free items, and counts them. What a free item's header has
+   besides the next item, and one in use besides the size, is judged once, of all together; items in use are looked at
+   one by one only where the size of some is not known, or wrong. A function of its own at run time too: so the compiler
+   keeps its loop in registers. */
+static __attribute__((noinline)) bool page_right(const uint8_t *h, uint64_t page, uint64_t words, struct marks *marks)
 {
     uint64_t class = class_in(get(h, page + 8));
-    uint64_t step = item_size(class) / 8;
+    uint32_t step = item_size(class) / 8;
     uint64_t need = items_in_page(class) * step;
     uint64_t bit = bit_of(page + 8);
     uint64_t stop = bit + need;
-    uint64_t used = used_header(class);
-    uint64_t free = free_header(class, 0);
-    uint64_t count = marks->count + items_in_page(class);
+    uint64_t count = marks->count;
     uint64_t wrong = 0;
+    uint64_t above = 0;
 
     if (words - 2 - need > 3)
         return false;
-    do {
+    /* the sum of 32 bits keeps the compiler from counting the place beside the bit */
+    for (; bit < stop; bit = (uint32_t)bit + step) {
         uint64_t header = get(h, INDEX_PAGE + 8 * bit);
-        if (header == used) {
-            count--;
+        if (header & 2) {
+            above |= header - least_header(class);
         } else {
-            wrong |= header ^ free;
+            wrong |= header - free_header(class, 0);
             marks->map[(uint32_t)bit / 64] |= (uint64_t)1 << bit % 64;
+            count++;
         }
-        bit += step;
-    } while (bit < stop);
+    }
     marks->count = count;
-    return wrong % 128 == 0;
+    return wrong % 128 == 0 && (same_class(above) || sizes_right(h, page, class));
 }
 
 /* Whether a free block can stand behind the last one, where "link" has to name it. The tag before it tells whether it
@@ -225,7 +259,8 @@ static bool free_right(const uint8_t *h, uint64_t block, uint64_t words, uint64_
 }
 
 /* Whether the blocks and the list of the free ones are right; marks the free items. For each kind one comparison tells
-   whether the tag is of that kind and the block within the words that are left. */
+   whether the tag is of that kind and the block within the words that are left. Blocks that are no pages have a loop of
+   their own, so that the compiler keeps it in registers. */
 static bool blocks_right(const uint8_t *h, uint64_t end, struct marks *marks)
 {
     uint64_t position = DATA_AREA;
@@ -233,32 +268,40 @@ static bool blocks_right(const uint8_t *h, uint64_t end, struct marks *marks)
     uint64_t previous_free = 0;
     uint64_t link = FIRST_FREE;
 
-    while (left != 0) {
-        uint64_t tag = get(h, position);
-        uint64_t words = rotate_right(tag - VARIABLE, 3);
-        if (words <= left) {
-            if (words < SMALLEST_VARIABLE / 8)
-                return false;
-        } else if ((words = rotate_right(tag - FREE, 3)) <= left) {
-            if (!free_right(h, position, words, previous_free, link))
+    for (;;) {
+        uint64_t tag, words;
+        for (;;) {
+            if (left == 0)
+                return get(h, link) == 0;
+            tag = get(h, position);
+            words = rotate_right(tag - VARIABLE, 3);
+            if (words <= left) {
+                if (words < SMALLEST_VARIABLE / 8 || get(h, position + 8 * words - 8) != tag)
+                    return false;
+                position += 8 * words;
+                left -= words;
+                continue;
+            }
+            words = rotate_right(tag - FREE, 3);
+            if (words > left)
+                break;
+            if (!free_right(h, position, words, previous_free, link) || get(h, position + 8 * words - 8) != tag)
                 return false;
             previous_free = position;
             link = position + 8;
-        } else {
-            words = rotate_right(tag - PAGE, 3);
-            if (words > left || words < SMALLEST_PAGE / 8)
-                return false;
-            if (bit_of(position) + words > marks->top)
-                clear_to(marks, bit_of(position) + words);
-            if (!page_right(h, position, words, marks))
-                return false;
+            position += 8 * words;
+            left -= words;
         }
-        position += 8 * words;
-        if (get(h, position - 8) != tag)
+        words = rotate_right(tag - PAGE, 3);
+        if (words > left || words < SMALLEST_PAGE / 8 || get(h, position + 8 * words - 8) != tag)
             return false;
+        if (bit_of(position) + words > marks->top)
+            clear_to(marks, bit_of(position) + words);
+        if (!page_right(h, position, words, marks))
+            return false;
+        position += 8 * words;
         left -= words;
     }
-    return get(h, link) == 0;
 }
 
 /* Whether the list of a class visits marked items of that class only, and no more than "count"; counts them down. */
@@ -414,13 +457,15 @@ static bool make_page(uint8_t *h, uint64_t class)
     return true;
 }
 
-static uint64_t take_item(uint8_t *h, uint64_t class)
+static uint64_t take_item(uint8_t *h, uint64_t size)
 {
+    uint64_t class = class_of(size);
+
     if (head_of(h, class) == 0 && !make_page(h, class))
         return 0;
     uint64_t item = head_of(h, class) + INDEX_PAGE;
     put_head(h, class, next_in(get(h, item)));
-    put(h, item, used_header(class));
+    put(h, item, used_header(class, size));
     return item + 8;
 }
 
@@ -436,6 +481,7 @@ struct live {
     bool found;
     bool is_item;
     uint64_t class;         /* of an item */
+    uint64_t asked;         /* the size that it was asked for, 0 if not known */
     uint64_t block;         /* the block that the address is in */
     uint64_t size;          /* of that block */
     uint64_t previous_free; /* the last free block before it, 0 if none */
@@ -447,10 +493,13 @@ static void find_item(const uint8_t *h, struct live *live, uint64_t address)
     uint64_t from_first = address - (live->block + 16); /* huge if the address is before the first item's */
     uint64_t step = item_size(class);
 
+    if (from_first % step != 0 || from_first / step >= items_in_page(class))
+        return;
+    uint64_t header = get(h, address - 8);
     live->is_item = true;
     live->class = class;
-    live->found = from_first % step == 0 && from_first / step < items_in_page(class)
-        && get(h, address - 8) == used_header(class);
+    live->asked = asked_in(header);
+    live->found = header % 128 == used_header(class, 0);
 }
 
 /* The list of the free blocks is in order of position: 0 if none is below the address. */
@@ -466,7 +515,7 @@ static uint64_t last_free_below(const uint8_t *h, uint64_t address)
 /* The walk begins behind that block, so no free one is met. */
 static struct live find(const uint8_t *h, uint64_t end, uint64_t address)
 {
-    struct live live = { false, false, 0, DATA_AREA, 0, 0 };
+    struct live live = { false, false, 0, 0, DATA_AREA, 0, 0 };
 
     if (address < DATA_AREA || address >= end)
         return live;
@@ -494,7 +543,7 @@ static struct live find(const uint8_t *h, uint64_t end, uint64_t address)
 static uint64_t allocate(uint8_t *h, uint64_t size)
 {
     if (size <= LARGEST_ITEM)
-        return take_item(h, class_of(size));
+        return take_item(h, size);
     uint64_t block = take_block(h, need_of(size), VARIABLE);
     return block ? block + 8 : 0;
 }
@@ -507,11 +556,15 @@ static void release(uint8_t *h, const struct live *live, uint64_t address)
         release_block(h, live->block, live->size, live->previous_free);
 }
 
-/* Whether the record can stay where it is; if so it is shrunk or grown. */
-static bool resize_in_place(uint8_t *h, const struct live *live, uint64_t size)
+/* Whether the record can stay where it is; if so it is shrunk or grown, or an item has the new size in its header. */
+static bool resize_in_place(uint8_t *h, const struct live *live, uint64_t address, uint64_t size)
 {
-    if (live->is_item)
-        return class_of(size) == live->class;
+    if (live->is_item) {
+        if (class_of(size) != live->class)
+            return false;
+        put(h, address - 8, used_header(live->class, size));
+        return true;
+    }
     if (size <= LARGEST_ITEM)
         return false;
     uint64_t need = need_of(size);
@@ -567,15 +620,21 @@ static uint64_t capacity_of(const struct live *live)
     return live->is_item ? 8 * live->class + 8 : live->size - 16;
 }
 
+/* How many of its bytes count. */
+static uint64_t shown_of(const struct live *live)
+{
+    return live->is_item && live->asked ? live->asked : capacity_of(live);
+}
+
 static uint64_t move(uint8_t *h, struct live *live, uint64_t address, uint64_t size)
 {
-    uint64_t capacity = capacity_of(live);
+    uint64_t shown = shown_of(live);
     uint64_t one_before = live->previous_free ? previous_of(h, live->previous_free) : 0;
     uint64_t new = allocate(h, size);
 
     if (new == 0)
         return 0;
-    copy(h + new, h + address, capacity < size ? capacity : size);
+    copy(h + new, h + address, shown < size ? shown : size);
     mend_previous(h, live, one_before);
     release(h, live, address);
     return new;
@@ -634,7 +693,7 @@ uint64_t twin_resize_in_place(uint8_t *h, size_t n, uint64_t address, uint64_t s
 
     if (refused)
         return refused;
-    return resize_in_place(h, &live, size) ? address : refuse(NO_ROOM);
+    return resize_in_place(h, &live, address, size) ? address : refuse(NO_ROOM);
 }
 
 uint64_t twin_move(uint8_t *h, size_t n, uint64_t address, uint64_t size)
