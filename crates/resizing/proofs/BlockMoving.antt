@@ -23,11 +23,11 @@ use Rattle.resizing.specs.declared.resize.Resized.the-variants as to
 use Rattle.engine.specs.Allocate.{Asked}
 use Rattle.find.specs.Find.{BlockFound}
 use Rattle.releasing.specs.Release.{BlockLive, Released}
-use Rattle.resizing.specs.Move.{Carried}
-use Rattle.resizing.specs.Ways.{BlockLiveAt, ByWay}
-use Rattle.resizing.specs.Mend.{Mendable, Mended}
+use Rattle.moving.specs.Move.{Carried}
+use Rattle.resizing.specs.Ways.{ByWay}
+use Rattle.moving.specs.Mend.{BlockLiveAt, Mendable, Mended}
 use Rattle.resizing.proofs.ResizeLaws.{chosen, carried-in, moved-to, block-holds}
-use Rattle.resizing.proofs.MendLaws.{found-stands, stands-found, read-before}
+use Rattle.moving.proofs.MendLaws.{found-stands, stands-found, read-before}
 
 module _ {w : ℕ} {b : List ℕ} {a n : ℕ} {x : VariableBlock} (i : BlockLiveAt w b a x) {t : Taken} {c : List ℕ} (g : Carried w b a (x .size - 2 * w) n t c) (s : Asked w n) (new : Address) (e : t ≡ At new) (r before : ℕ) (er : r ≡ backOf (shape w) b (x .prev .0)) (eb : before ≡ wordAt w b r) where
   after : (L : Layout) → Here (shape w) b L → Layout

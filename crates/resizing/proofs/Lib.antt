@@ -1,4 +1,2 @@
-mod MoveLaws
-mod MendLaws
 mod BlockMoving
 mod ResizeLaws

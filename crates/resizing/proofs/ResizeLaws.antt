@@ -38,9 +38,10 @@ use Rattle.holding.specs.Holding.{Holds}
 use Rattle.items.specs.Items.{ItemLive, GaveItem, RenewedItem}
 use Rattle.releasing.specs.Release.{BlockLive}
 use Rattle.reshaping.specs.Reshape.{Stays, Reshaped}
-use Rattle.resizing.specs.Move.{Holding, Carried}
-use Rattle.resizing.specs.Ways.{ItemLiveAt, BlockLiveAt, outcomeOf, keptAs, ByWay}
-use Rattle.resizing.proofs.MoveLaws.{taken-none, taken-some, old-live}
+use Rattle.moving.specs.Move.{Holding, Carried}
+use Rattle.moving.specs.Mend.{BlockLiveAt}
+use Rattle.resizing.specs.Ways.{ItemLiveAt, outcomeOf, keptAs, ByWay}
+use Rattle.moving.proofs.MoveLaws.{taken-none, taken-some, old-live}
 
 not-nothing-item : (o c k : ℕ) → thing o c k ≡ nothing → ⊥
 not-nothing-item o c k e = let z : _≡_ {A = ℕ} 0 1 = cc in omega arith

@@ -1,3 +1,1 @@
-pub mod Move
-pub mod Mend
 pub mod Ways

@@ -8,24 +8,18 @@ use Rattle.model.specs.declared.Address.{Address}
 use Rattle.model.specs.Shape.{shape, offsetOf, index}
 use Rattle.model.specs.Layout.{Layout}
 use Rattle.model.specs.Sound.{Here}
-use Rattle.model.specs.Rules.{Spot, thing, find}
+use Rattle.model.specs.Rules.{thing, find}
 use Rattle.model.specs.Refusals.{notLive, noRoom}
 use Rattle.model.specs.Calls.{Way, Outcome, refused, granted, resizedBy}
-use Rattle.find.specs.declared.VariableBlock.{VariableBlock}
 use Rattle.resizing.specs.declared.resize.Resized.{Resized}
 use Rattle.resizing.specs.declared.resize.Resized.the-variants.{To, NotLive, NoRoom}
-use Rattle.find.specs.Find.{BlockFound}
 use Rattle.engine.specs.Ready.{Ready}
 
--- the item of class c with its header at q, for which k bytes were asked, and the variable block x, are live at a
+-- the item of class c with its header at q, for which k bytes were asked, is live at a
 pub record ItemLiveAt (w : ℕ) (b : List ℕ) (a q c k : ℕ) : Type 0 where
   pub ready : Ready w b
   pub low : index (shape w) ≤ q
   pub is : (L : Layout) → Here (shape w) b L → find (shape w) a L ≡ thing (offsetOf (shape w) q) c k
-
-pub record BlockLiveAt (w : ℕ) (b : List ℕ) (a : ℕ) (x : VariableBlock) : Type 0 where
-  pub ready : Ready w b
-  pub is : (L : Layout) → Here (shape w) b L → ((t : Spot) × BlockFound w L a t x)
 
 -- what an answer says: the refusal or the address, with the bytes
 abbrev pub outcomeOf : Resized → List ℕ → Outcome

@@ -1,6 +1,4 @@
 // The ways of resize, once the heap is known to be sound and the size to be good: where the record stands, by a move, as it is.
-use crate::carry::carry;
-use crate::mend::mend;
 use engine::allocate::Taken;
 use find::Live;
 use find::VariableBlock;
@@ -15,6 +13,8 @@ use model::block_capacity;
 use model::class_of;
 use model::item_shown;
 use model::largest_item;
+use moving::carry::carry;
+use moving::mend::mend;
 use releasing::release;
 use reshaping::reshape;
 use words::word;
@@ -23,7 +23,8 @@ ghost use Prim.Native.Nat.{ℕ};
 ghost use Rattle.model.specs.Calls.{staying, moving, keeping};
 ghost use Rattle.engine.specs.Allocate.{Asked};
 ghost use Rattle.engine.specs.Ready.{Ready};
-ghost use Rattle.resizing.specs.Ways.{ItemLiveAt, BlockLiveAt, keptAs, ByWay};
+ghost use Rattle.moving.specs.Mend.{BlockLiveAt};
+ghost use Rattle.resizing.specs.Ways.{ItemLiveAt, keptAs, ByWay};
 
 // Where a resized record stands; or that nothing is live there; or that there is no room.
 pub enum Resized {

@@ -1,5 +1,5 @@
 use Rattle.resizing.proofs.BlockMoving.{mendable, found-again, given-back}
-use Rattle.resizing.proofs.MendLaws.{prev-back, back-room}
+use Rattle.moving.proofs.MendLaws.{prev-back, back-room}
 use Rattle.resizing.proofs.ResizeLaws.{moved-nowhere, block-large, block-holds}
 use native.Mathlib.Omega.{arith}
 use borrow.Author.Needs.{needs}
@@ -9,8 +9,8 @@ use Rattle.resizing.proofs.resize.move_block.Reads as reads
 use Rattle.resizing.proofs.resize.move_block.Lts as lts
 use Rattle.releasing.proofs.release.Reads as release-reads
 use Rattle.links.proofs.back_at.Reads as back-at-reads
-use Rattle.resizing.proofs.carry.carry.Reads as carry-reads
-use Rattle.resizing.proofs.mend.mend.Reads as mend-reads
+use Rattle.moving.proofs.carry.carry.Reads as carry-reads
+use Rattle.moving.proofs.mend.mend.Reads as mend-reads
 use Rattle.words.proofs.word.Reads as word-reads
 
 back-at-requires : tie.Need-back-at-requires

@@ -5,7 +5,7 @@ use Rattle.resizing.proofs.resize.move_item.Tie as tie
 use Rattle.resizing.proofs.resize.move_item.Reads as reads
 use Rattle.resizing.proofs.resize.move_item.Lts as lts
 use Rattle.items.proofs.give.Reads as give-reads
-use Rattle.resizing.proofs.carry.carry.Reads as carry-reads
+use Rattle.moving.proofs.carry.carry.Reads as carry-reads
 
 item-shown-requires : tie.Need-item-shown-requires
 item-shown-requires c κs = (c .before .before .pre .0 .ready .width, few (c .before .before .pre .0))

@@ -1,11 +1,11 @@
-use Rattle.resizing.proofs.MoveLaws.{room-to-copy, not-carried, was-carried}
+use Rattle.moving.proofs.MoveLaws.{room-to-copy, not-carried, was-carried}
 use borrow.Author.Needs.{needs}
-use Rattle.resizing.proofs.carry.carry.Statement.{statement}
-use Rattle.resizing.proofs.carry.carry.Tie as tie
-use Rattle.resizing.proofs.carry.carry.Reads as reads
-use Rattle.resizing.proofs.carry.carry.Lts as lts
+use Rattle.moving.proofs.carry.carry.Statement.{statement}
+use Rattle.moving.proofs.carry.carry.Tie as tie
+use Rattle.moving.proofs.carry.carry.Reads as reads
+use Rattle.moving.proofs.carry.carry.Lts as lts
 use Rattle.engine.proofs.allocate.allocate.Reads as allocate-reads
-use Rattle.resizing.proofs.carry.smaller.Reads as smaller-reads
+use Rattle.moving.proofs.carry.smaller.Reads as smaller-reads
 use Rattle.words.proofs.bytes.copy.Reads as copy-reads
 
 allocate-requires : tie.Need-allocate-requires

@@ -6,8 +6,16 @@ use Rattle.words.specs.Width.{Width}
 use Rattle.model.specs.Shape.{shape}
 use Rattle.model.specs.Layout.{Layout}
 use Rattle.model.specs.Sound.{Here}
+use Rattle.model.specs.Rules.{Spot}
 use Rattle.model.specs.inner.Walks.{flag, Stands, Mend}
 use Rattle.find.specs.declared.VariableBlock.{VariableBlock}
+use Rattle.find.specs.Find.{BlockFound}
+use Rattle.engine.specs.Ready.{Ready}
+
+-- the variable block x is live at a
+pub record BlockLiveAt (w : ℕ) (b : List ℕ) (a : ℕ) (x : VariableBlock) : Type 0 where
+  pub ready : Ready w b
+  pub is : (L : Layout) → Here (shape w) b L → ((t : Spot) × BlockFound w L a t x)
 
 -- x is a block as it was found before an allocation, and `before` is the free block before the one at its prev
 pub record Mendable (w : ℕ) (b : List ℕ) (x : VariableBlock) (before : ℕ) : Type 0 where

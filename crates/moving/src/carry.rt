@@ -6,7 +6,7 @@ use words::bytes::copy;
 ghost use mathlib.Core.Path.{_≡_};
 ghost use Prim.Native.Nat.{min};
 ghost use Rattle.engine.specs.Allocate.{Asked};
-ghost use Rattle.resizing.specs.Move.{Holding, Carried};
+ghost use Rattle.moving.specs.Move.{Holding, Carried};
 
 // The smaller of two numbers.
 fn smaller(k: usize, n: usize) -> usize

@@ -21,9 +21,8 @@ use Rattle.model.proofs.rules.Allocation.{Granted, allocate-grants}
 use Rattle.model.proofs.lives.Moving.{payloadOf, found-live, live-apart, copied-here}
 use Rattle.engine.specs.declared.allocate.Taken.{Taken}
 use Rattle.engine.specs.declared.allocate.Taken.the-variants.{At, NoRoom}
-use Rattle.resizing.specs.declared.resize.Resized.the-variants as to
 use Rattle.engine.specs.Allocate.{Asked, takenOf, GivesSize}
-use Rattle.resizing.specs.Move.{Holding, Carried}
+use Rattle.moving.specs.Move.{Holding, Carried}
 
 -- what an answer says of the rule
 not-both : (x : Address) → NoRoom ≡ At x → ⊥

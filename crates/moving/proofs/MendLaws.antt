@@ -26,8 +26,7 @@ use Rattle.model.proofs.blocks.Mending.{NoFree, Last, last-of, Before}
 use Rattle.find.specs.declared.VariableBlock.{VariableBlock}
 use Rattle.links.specs.Links.{BackRoom}
 use Rattle.find.specs.Find.{BlockFound}
-use Rattle.resizing.specs.Ways.{BlockLiveAt}
-use Rattle.resizing.specs.Mend.{Mendable, Mended}
+use Rattle.moving.specs.Mend.{BlockLiveAt, Mendable, Mended}
 use Rattle.releasing.proofs.ReleaseLaws.{blocks-are}
 
 -- what is read where a block begins

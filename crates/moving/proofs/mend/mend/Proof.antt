@@ -1,11 +1,11 @@
 use mathlib.Core.Path.{sym, _∙_}
-use Rattle.resizing.proofs.MendLaws.{none-taken, prev-room, still-free, behind-room, rest-free, none-free}
+use Rattle.moving.proofs.MendLaws.{none-taken, prev-room, still-free, behind-room, rest-free, none-free}
 use native.Mathlib.Omega.{arith}
 use borrow.Author.Needs.{needs}
-use Rattle.resizing.proofs.mend.mend.Statement.{statement}
-use Rattle.resizing.proofs.mend.mend.Tie as tie
-use Rattle.resizing.proofs.mend.mend.Reads as reads
-use Rattle.resizing.proofs.mend.mend.Lts as lts
+use Rattle.moving.proofs.mend.mend.Statement.{statement}
+use Rattle.moving.proofs.mend.mend.Tie as tie
+use Rattle.moving.proofs.mend.mend.Reads as reads
+use Rattle.moving.proofs.mend.mend.Lts as lts
 use Rattle.words.proofs.word.Reads as word-reads
 
 returns : tie.Need-returns

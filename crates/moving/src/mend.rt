@@ -5,7 +5,7 @@ use model::Position;
 use model::kind_in;
 use model::size_in;
 use words::word;
-ghost use Rattle.resizing.specs.Mend.{Mendable, Mended};
+ghost use Rattle.moving.specs.Mend.{Mendable, Mended};
 
 // The block x as it is found now; `before` is the free block that stood before the one at x's prev.
 pub fn mend(w: usize, h: &[u8], x: VariableBlock, before: Position) -> VariableBlock
