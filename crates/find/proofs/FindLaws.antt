@@ -24,7 +24,7 @@ use Rattle.model.proofs.walks.Passing.{stands as stands-at}
 use Rattle.model.specs.Parts.{freeKind, variableKind, sizeIn, kindIn, classIn, heldFlags, flagsIn, askedIn, firstItemAt}
 use Rattle.model.specs.inner.Walks.{flag, Standing}
 use Rattle.model.proofs.walks.Finding.{behinds, slots-below, find-past, find-below, find-at, find-not-at, find-free, find-page}
-use Rattle.model.proofs.items.Aligned.{next-aligned, class-read, SlotRead, slot-read, slots-none}
+use Rattle.model.proofs.items.Aligned.{next-aligned, class-read, SlotRead, slot-read, slots-none, laid}
 use Rattle.find.specs.declared.Live.the-variants.{Nothing, Item, Variable}
 use Rattle.find.specs.Find.{Finds, OnBlock, OnPage, behindAt, touchesAt, Clear, Nearest}
 use Rattle.find.proofs.NearestLaws.{standing, behind-none, touches-free, touches-not, clear-past, gap}
@@ -55,13 +55,13 @@ module _ {w : ℕ} {b : List ℕ} {p t prev : ℕ} {touching : Bool} {a : ℕ} (
   pub found-in-free : kindIn t ≡ freeKind → Finds w L a Nothing
   unfolding Finds
   found-in-free z =
-      let r = is-free (o .width) h stands t (o .tag) (omega (arith, o .from, o .below)) z in
+      let r = is-free (o .width) (laid (o .width) h) stands t (o .tag) (omega (arith, o .from, o .below)) z in
       found-rest (free (t / 8 * 8) ∷ r .0) (r .1) ∙ ap (λ (f : Found). behinds (stands .pre) f) (find-free (shape w) (shape-good (o .width)) a p (t / 8 * 8) (r .0) (o .reach))
 
   pub found-elsewhere : kindIn t ≡ variableKind → (a ≡ p + w → ⊥) → Finds w L a Nothing
   unfolding Finds
   found-elsewhere z n =
-      let r = is-variable (o .width) h stands t (o .tag) (omega (arith, o .from, o .below)) z in
+      let r = is-variable (o .width) (laid (o .width) h) stands t (o .tag) (omega (arith, o .from, o .below)) z in
       found-rest (used (variable (t / 8 * 8)) ∷ r .0) (r .1)
       ∙ ap (λ (f : Found). behinds (stands .pre) f) (find-not-at (shape w) (shape-good (o .width)) a p (t / 8 * 8) (r .0) n (o .reach))
 
@@ -69,7 +69,7 @@ module _ {w : ℕ} {b : List ℕ} {p t prev : ℕ} {touching : Bool} {a : ℕ} (
       → Finds w L a (Variable (record { at = at; size = size; prev = before; touching = touching }))
   unfolding Finds
   found-variable at before size ea eb es z e =
-      let r = is-variable (o .width) h stands t (o .tag) (omega (arith, o .from, o .below)) z in
+      let r = is-variable (o .width) (laid (o .width) h) stands t (o .tag) (omega (arith, o .from, o .below)) z in
       let spot : Spot = record { pre = stands .pre; size = t / 8 * 8; post = r .0 } in (
         spot,
         record {
@@ -87,8 +87,8 @@ module _ {w : ℕ} {b : List ℕ} {p a : ℕ} (o : OnPage w b p a) (L : Layout) 
   on : OnBlock w b p (o .tag) (o .prev) (o .touching) a
   on = o .block
 
-  there : PageThere (on .width) h (stands on L h) (o .tag) (on .tag) (omega (arith, on .from, on .below))
-  there = is-page (on .width) h (stands on L h) (o .tag) (on .tag) (omega (arith, on .from, on .below)) (o .not-free) (o .not-variable)
+  there : PageThere (on .width) (laid (on .width) h) (stands on L h) (o .tag) (on .tag) (omega (arith, on .from, on .below))
+  there = is-page (on .width) (laid (on .width) h) (stands on L h) (o .tag) (on .tag) (omega (arith, on .from, on .below)) (o .not-free) (o .not-variable)
 
   class : ℕ
   class = there .class
@@ -215,7 +215,7 @@ module _ {w : ℕ} {b : List ℕ} {a prev begin p : ℕ} (k : Looking w b a prev
   -- the block at p is within the heap
   pub look-inside : (t : ℕ) → t ≡ wordAt w b p → (leastFree (shape w) ≤ sizeIn t) × (p + sizeIn t ≤ endOf (length b))
   look-inside t e =
-      let z = sized (k .width) (k .sound .here) (stands-here (k .sound .layout) (k .sound .here)) t e (omega (arith, k .from, k .below)) in
+      let z = sized (k .width) (laid (k .width) (k .sound .here)) (stands-here (k .sound .layout) (k .sound .here)) t e (omega (arith, k .from, k .below)) in
       (z .least, z .inside)
 
   pub look-on : (t : ℕ) → t ≡ wordAt w b p → (touching : Bool) → touching ≡ touchesAt prev begin p → a < p + sizeIn t → OnBlock w b p t prev touching a

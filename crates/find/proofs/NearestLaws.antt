@@ -22,6 +22,7 @@ use Rattle.model.proofs.blocks.FreeWalk.{left, first-read, here-room}
 use Rattle.model.proofs.blocks.Releasing.{left-side}
 use Rattle.model.proofs.blocks.Valid.{ends-free-append}
 use Rattle.model.proofs.walks.Standing.{Met, met, there, size-is}
+use Rattle.model.proofs.items.Aligned.{laid}
 use Rattle.model.proofs.walks.Passing.{pass-start, pass}
 use Rattle.find.specs.Find.{behindAt, touchesAt, Between, Clear, Nearest}
 
@@ -61,7 +62,7 @@ module _ {w : ℕ} (wd : Width w) {b : List ℕ} {L : Layout} (h : Here (shape w
   reach-free : {p prev left next : ℕ} (s : Between w L p prev left next) (n : ℕ) (after : List Block) → s .rest ≡ free n ∷ after → Reached p next
   unfolding firstFree sizeOf own Shows
   reach-free {p} {prev} {left} {next} s n after e =
-      let m : Met w b L p prev (free n) after = met wd h (standing s) (free n) after e in
+      let m : Met w b L p prev (free n) after = met wd (laid wd h) (standing s) (free n) after e in
       let q : p ≡ next = ap (λ (l : List Block). firstFree (shape w) p l 0) (sym e) ∙ s .onward in
       let here : Reached p p = record { above = omega arith; least = omega (arith, m .least, m .shown .0); inside = omega (arith, m .inside, m .shown .0); beyond = rw (m .shown .0) (over s (free n) after e (wordAt w b (nextAt (shape w) p)) (sym (m .shown .1 .0))) } in
       subst (λ (x : ℕ). Reached p x) q here
@@ -153,7 +154,7 @@ module _ {w : ℕ} (wd : Width w) {b : List ℕ} {L : Layout} (h : Here (shape w
   pub clear-past : (t : ℕ) → t ≡ wordAt w b p → p < a → a < endOf (length b) → p + sizeIn t ≤ a → Clear w L a (p + sizeIn t) prev false
   unfolding firstFree
   clear-past t e l m f =
-      let x = there wd h (standing (s .between)) (omega arith) in go (x .block) (x .after) (x .rest) (x .met)
+      let x = there wd (laid wd h) (standing (s .between)) (omega arith) in go (x .block) (x .after) (x .rest) (x .met)
     where
       go : (x : Block) (after : List Block) → s .between .rest ≡ x ∷ after → Met w b L p prev x after → Clear w L a (p + sizeIn t) prev false
       go (free n) after r y =
@@ -162,7 +163,7 @@ module _ {w : ℕ} (wd : Width w) {b : List ℕ} {L : Layout} (h : Here (shape w
       go (used u) after r y =
           record {
             next = s .next;
-            between = rw (← size-is wd h (standing (s .between)) t e (omega arith) (used u) after y) (over-used (s .between) u after r);
+            between = rw (← size-is wd (laid wd h) (standing (s .between)) t e (omega arith) (used u) after y) (over-used (s .between) u after r);
             above = s .above;
           }
 

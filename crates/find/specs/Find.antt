@@ -14,12 +14,12 @@ use Rattle.model.specs.Layout.{Block, Layout, ends, firstFree}
 use Rattle.model.specs.Sound.{Here, Sound}
 use Rattle.model.specs.Rules.{Spot, block, thing, nothing, find}
 use Rattle.model.specs.inner.Walks.{flag, lastFree, endsFree, Standing, Passed}
-use Rattle.find.specs.declared.VariableBlock.{VariableBlock}
+use Rattle.find.specs.declared.UsedBlock.{UsedBlock}
 use Rattle.find.specs.declared.Live.{Live}
 use Rattle.find.specs.declared.Live.the-variants.{Nothing, Item, Variable}
 
 -- x is the variable block of the spot t, found at a
-pub record BlockFound (w : ℕ) (L : Layout) (a : ℕ) (t : Spot) (x : VariableBlock) : Type 0 where
+pub record BlockFound (w : ℕ) (L : Layout) (a : ℕ) (t : Spot) (x : UsedBlock) : Type 0 where
   pub found : find (shape w) a L ≡ block t
   pub at : ends (shape w) (start (shape w)) (t .pre) ≡ x .at .0
   pub size : t .size ≡ x .size

@@ -28,8 +28,8 @@ ghost use Rattle.model.specs.Layout.{Layout};
 ghost use Rattle.model.specs.Sound.{Here, Sound};
 ghost use Rattle.find.specs.Find.{Finds, OnBlock, OnPage, behindAt, touchesAt, Nearest};
 
-// A variable block: where it stands, its size, the last free block before it (0: none), and whether that touches it.
-pub struct VariableBlock {
+// A block in use: where it stands, its size, the last free block before it (0: none), and whether that touches it.
+pub struct UsedBlock {
     pub at: Position,
     pub size: usize,
     pub prev: Position,
@@ -40,7 +40,7 @@ pub struct VariableBlock {
 pub enum Live {
     Nothing,
     Item(Position, usize, usize),
-    Variable(VariableBlock),
+    Variable(UsedBlock),
 }
 
 // The item whose payload begins at a, in the page at p.
@@ -93,7 +93,7 @@ fn in_block(
     if a.0 != address_of(w, p).0 {
         return Live::Nothing;
     }
-    Live::Variable(VariableBlock {
+    Live::Variable(UsedBlock {
         at: p,
         size: size_in(t),
         prev: prev,

@@ -3,6 +3,7 @@ mod Examining
 mod Allocating
 mod Freeing
 mod Resizing
+mod Sweeping
 mod Answering
 pub mod Outcomes
 pub mod Together

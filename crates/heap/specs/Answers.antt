@@ -15,6 +15,8 @@ use Rattle.heap.specs.declared.Refusal.{Refusal}
 use Rattle.heap.specs.declared.Refusal.the-variants.{BadLength, NotOpened, NotSound, BadSize, NotLive, NoRoom, AlreadyOpened}
 use Rattle.heap.specs.declared.Answer.{Answer}
 use Rattle.heap.specs.declared.Answer.the-variants.{Granted, Refused}
+use Rattle.heap.specs.declared.recovery.Swept.{Swept}
+use Rattle.heap.specs.declared.recovery.Swept.the-variants as swept
 use Rattle.heap.specs.declared.Verdict.{Verdict}
 use Rattle.heap.specs.declared.Verdict.the-variants.{Fine, Unfit}
 
@@ -32,6 +34,11 @@ refusalNumber AlreadyOpened = alreadyOpened
 abbrev pub outcome : Answer → List ℕ → Outcome
 outcome (Granted a) b = granted (a .0) b
 outcome (Refused k) b = refused b (refusalNumber k)
+
+-- and so a sweep's answer: the number of pages stands where others have an address
+abbrev pub sweptOutcome : Swept → List ℕ → Outcome
+sweptOutcome (swept.Pages n) b = granted n b
+sweptOutcome (swept.Refused k) b = refused b (refusalNumber k)
 
 -- why every call but initialise says no: the first of 1, 2 and 3 that applies
 unfoldable pub UnfitFor : List ℕ → Refusal → Type 0

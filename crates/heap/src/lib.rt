@@ -1,6 +1,7 @@
 // The heap's calls. Each checks what it is lent: it does what the rule of documents 01 and 02 says, or refuses and leaves every byte.
 pub mod counting;
 pub mod lookup;
+pub mod recovery;
 pub mod resize;
 pub mod walking;
 
@@ -9,6 +10,8 @@ pub use crate::counting::statistics;
 pub use crate::lookup::look_up;
 pub use crate::lookup::look_up_mut;
 pub use crate::lookup::look_up_refusal;
+pub use crate::recovery::Swept;
+pub use crate::recovery::sweep;
 pub use crate::resize::keep;
 pub use crate::resize::relocate;
 pub use crate::resize::resize_in_place;

@@ -12,7 +12,7 @@ use Rattle.model.specs.Rules.{Spot, Found, block, thing, nothing, find, capacit
 use Rattle.model.proofs.items.Asked.{shown-some}
 use Rattle.model.proofs.lives.Holding.{EndsBy, find-by, shown-most}
 use Rattle.model.specs.declared.Position.{Position}
-use Rattle.find.specs.declared.VariableBlock.{VariableBlock}
+use Rattle.find.specs.declared.UsedBlock.{UsedBlock}
 use Rattle.find.specs.declared.Live.{Live}
 use Rattle.find.specs.declared.Live.the-variants.{Nothing, Item, Variable}
 use Rattle.find.specs.Find.{Finds}
@@ -72,7 +72,7 @@ module _ {w : ℕ} (wd : Width w) (b : List ℕ) (a : ℕ) (k : Sound (shape w) 
   unfolding Finds EndsBy
   class-few q c n e = ends-by wd b a (k .layout) (k .here) (thing (offsetOf (shape w) (q .0)) c n) (found-as (Item q c n) e (k .layout) (k .here) .1) .0
 
-  pub block-least : (y : VariableBlock) → x ≡ Variable y → leastVariable (shape w) ≤ y .size
+  pub block-least : (y : UsedBlock) → x ≡ Variable y → leastVariable (shape w) ≤ y .size
   unfolding Finds EndsBy
   block-least y e =
       let g = found-as (Variable y) e (k .layout) (k .here) in
@@ -90,7 +90,7 @@ module _ {w : ℕ} (wd : Width w) (b : List ℕ) (a : ℕ) (k : Sound (shape w) 
     unfolding Finds
     holds-item q c n e r er = holds wd b a ms k r (λ L h. er ∙ ap measure (sym (found-as (Item q c n) e L h .1)))
 
-    pub holds-block : (y : VariableBlock) → x ≡ Variable y → (r : ℕ) → ((t : Spot) → t .size ≡ y .size → r ≡ measure (block t)) → Holds w measure b a r
+    pub holds-block : (y : UsedBlock) → x ≡ Variable y → (r : ℕ) → ((t : Spot) → t .size ≡ y .size → r ≡ measure (block t)) → Holds w measure b a r
     unfolding Finds
     holds-block y e r er =
         holds wd b a ms k r (λ L h. let g = found-as (Variable y) e L h in er (g .0) (g .1 .size) ∙ ap measure (sym (g .1 .found)))

@@ -1,2 +1,2 @@
 mod ItemTaking
-mod GiveLaws
+pub mod GiveLaws

@@ -5,12 +5,14 @@ use mathlib.Core.List.{List, [], _∷_}
 use lib.ListN.{length, getD}
 use Rattle.words.specs.Width.{Width}
 use Rattle.words.specs.Word.{wordAt}
-use Rattle.model.specs.Shape.{shape, classOf, addressOf, itemAt, offsetOf, index}
+use Rattle.model.specs.Shape.{shape, classOf, addressOf, itemAt, offsetOf, index, start}
 use Rattle.model.specs.Parts.{headAt}
 use Rattle.model.specs.Layout.{Layout}
 use Rattle.model.specs.Sound.{Here, Sound}
-use Rattle.model.specs.Rules.{popped, thing, find, freed, renewed}
+use Rattle.model.specs.Rules.{popped, pushed, thing, find, renewed}
 use Rattle.model.specs.Calls.{drawn}
+use Rattle.model.specs.inner.Laid.{Laid}
+use Rattle.model.specs.inner.Items.{InBlocks}
 
 -- there is an item of class c on its list, and n is a size of that class
 pub record HasItem (w : ℕ) (b : List ℕ) (c n : ℕ) : Type 0 where
@@ -36,10 +38,17 @@ pub record ItemLive (w : ℕ) (b : List ℕ) (q c : ℕ) : Type 0 where
   pub asked : ℕ
   pub found : find (shape w) address layout ≡ thing (offsetOf (shape w) q) c asked
 
--- the heap with it given back
+-- an item of class c, free or in use, has its header at q, whatever the lists name
+pub record ItemIn (w : ℕ) (b : List ℕ) (q c : ℕ) : Type 0 where
+  pub width : Width w
+  pub layout : Layout
+  pub laid : Laid w b layout
+  pub short : length b ≤ shape w .most
+  pub there : InBlocks (shape w) c q (start (shape w)) (layout .blocks)
+
+-- the heap with it at the head of its list
 pub record GaveItem (w : ℕ) (b : List ℕ) (q c : ℕ) (d : List ℕ) : Type 0 where
-  pub draws : (L : Layout) (a k : ℕ) → Here (shape w) b L → find (shape w) a L ≡ thing (offsetOf (shape w) q) c k → d ≡ drawn (shape w) (freed (shape w) (thing (offsetOf (shape w) q) c k) L) b
-  pub sound : Sound (shape w) d
+  pub draws : (L : Layout) → Laid w b L → InBlocks (shape w) c q (start (shape w)) (L .blocks) → d ≡ drawn (shape w) (pushed (shape w) c (offsetOf (shape w) q) L) b
 
 -- the heap with it for n bytes from now on
 pub record RenewedItem (w : ℕ) (b : List ℕ) (q c n : ℕ) (d : List ℕ) : Type 0 where

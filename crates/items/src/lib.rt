@@ -1,4 +1,4 @@
-// Items: the first of a class's list is taken, and an item in use goes back to the head of its list or is for another size from now on.
+// Items: the first of a class's list is taken, an item goes to the head of its list, and one in use is for another size from now on.
 use model::Address;
 use model::ItemOffset;
 use model::Position;
@@ -13,7 +13,7 @@ use words::put_word;
 use words::word;
 ghost use mathlib.Core.Path.{_≡_};
 ghost use Rattle.model.specs.Shape.{classOf};
-ghost use Rattle.items.specs.Items.{HasItem, TookItem, ItemLive, GaveItem, RenewedItem};
+ghost use Rattle.items.specs.Items.{HasItem, TookItem, ItemIn, GaveItem, ItemLive, RenewedItem};
 
 // The first item on the list of class c is taken for n bytes: its address.
 pub fn take(w: usize, h: &mut [u8], c: usize, n: usize) -> Address
@@ -29,9 +29,9 @@ pub fn take(w: usize, h: &mut [u8], c: usize, n: usize) -> Address
     address_of(w, q)
 }
 
-// The item in use whose header stands at q, of class c, goes to the head of its list.
+// The item whose header stands at q, of class c, goes to the head of its list. It may be free: a sweep links lists anew.
 pub fn give(w: usize, h: &mut [u8], q: Position, c: usize)
-    requires { ⌜ ItemLive w (now h) (q .0) c ⌝ }
+    requires { ⌜ ItemIn w (now h) (q .0) c ⌝ }
     ensures { λ _. ⌜ GaveItem w (now (h .entry)) (q .0) c (now (h .exit)) ⌝ }
 {
     let head = head_at(w, c);

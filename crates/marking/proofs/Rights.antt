@@ -17,10 +17,8 @@ use Rattle.model.specs.inner.Headers.{leastHeader, SameClass}
 use Rattle.model.proofs.Sizes.{flags-idle}
 use Rattle.marking.specs.Uses.{Slots, Items, Right, AllRight, classAt, PageRight}
 use Rattle.marking.specs.Told.{PageItems, RightTold}
+use Rattle.words.proofs.YesNo.{yes-no}
 use Rattle.marking.proofs.Places.{or-more, or-parts}
-
-pub yes-no : true ≡ false → ⊥
-yes-no e = let z : _≡_ {A = ℕ} 0 1 = cc in omega arith
 
 -- differences that are less than a class, or-ed
 pub none-near : SameClass 0

@@ -7,3 +7,4 @@ pub mod items
 pub mod lives
 pub mod walks
 pub mod rules
+pub mod sweeps

@@ -6,6 +6,7 @@ pub mod Remade
 pub mod FreeWalk
 pub mod Middle
 pub mod Releasing
+pub mod Joined
 pub mod Spots
 pub mod Taken
 pub mod Placed

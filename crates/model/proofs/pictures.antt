@@ -5,3 +5,4 @@ pub mod Change
 pub mod Relist
 pub mod Heads
 pub mod Written
+pub mod Places

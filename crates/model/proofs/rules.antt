@@ -5,5 +5,6 @@ pub mod Room
 pub mod OnLayouts
 pub mod ResizeWays
 pub mod Twins
+pub mod TwinCalls
 pub mod Figures
 pub mod HandFigures

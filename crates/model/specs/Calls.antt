@@ -2,7 +2,7 @@
 use Prim.Native.Nat.{ℕ, _+_, _*_, _^_, _≤_, min}
 use mathlib.Core.Path.{_≡_}
 use mathlib.Core.Bool.{cond, _&&_}
-use mathlib.Core.List.{List, []}
+use mathlib.Core.List.{List, [], _∷_}
 use mathlib.Core.Option.{Option, none, some}
 use lib.ListN.{length}
 use lib.Dec.{eqb, leb}
@@ -15,9 +15,10 @@ use Rattle.model.specs.Layout.{Layout, words}
 use Rattle.model.specs.Sound.{Here, Sound}
 use Rattle.model.specs.Rules.{Made, Found, block, thing, nothing, allocate, find, freed, capacity, shownOf, stays, fresh}
 use Rattle.model.specs.Reading.{Step, ended, step, Statistics, counted, table, lookedUp}
+use Rattle.model.specs.Sweeping.{empties, swept}
 use Rattle.model.specs.Refusals.{badLength, notOpened, notSound, badSize, notLive, noRoom, alreadyOpened}
 
--- of a call that may change the heap: its refusal (0: granted), its address, and the heap's bytes then
+-- of a call that may change the heap: its refusal (0: granted), its address (of a sweep: the number of pages given back), and the heap's bytes then
 pub record Outcome : Type 0 where
   pub refusal : ℕ
   pub address : ℕ
@@ -63,6 +64,11 @@ module _ (S : Shape) where
   -- the bytes with a layout's picture drawn over them
   abbrev pub drawn : Layout → List ℕ → List ℕ
   drawn L b = draw (S .word) (words S (endOf (length b)) L) b
+
+  -- the pictures of several layouts, drawn one after the other
+  unfoldable pub drawnInTurn : List Layout → List ℕ → List ℕ
+  drawnInTurn [] b = b
+  drawnInTurn (L ∷ Ls) b = drawnInTurn Ls (drawn L b)
 
   -- every call but initialise: r is the refusal 1, 2 or 3 where it applies, and else what the rule gives for the heap's layout
   pub record Checked {A : Type 0} (b : List ℕ) (no : ℕ → A) (rule : Layout → A) (r : A) : Type 0 where
@@ -157,6 +163,10 @@ module _ (S : Shape) where
   -- Keep, which a caller tries last, or 6
   abbrev pub Keeps : List ℕ → ℕ → ℕ → Outcome → Type 0
   Keeps b a n r = ResizesBy keeping b a n r
+
+  -- Sweep: it answers the number of pages given back
+  abbrev pub Sweeps : List ℕ → Outcome → Type 0
+  Sweeps b r = Checked b (refused b) (λ L. granted (empties (L .blocks)) (drawnInTurn (swept S L) b)) r
 
   -- Look-up
   abbrev pub LooksUp : List ℕ → ℕ → Told (List ℕ) → Type 0

@@ -8,6 +8,7 @@ pub mod inner
 pub mod Live
 pub mod Reading
 pub mod Walking
+pub mod Sweeping
 pub mod Refusals
 pub mod Calls
 pub mod Promises

@@ -44,9 +44,12 @@ heldHeader c n = 128 * n + 4 * c + heldFlags
 abbrev pub freeMark : ℕ → ℕ
 freeMark c = 4 * c + freeFlags
 
--- what any header says: its flags; and what one of an item in use says: the size that was asked for
+-- what any header says: its flags, and 1 where they are those of an item in use, 0 of a free one; and what one of an item in use says: the size that was asked for
 abbrev pub flagsIn : ℕ → ℕ
 flagsIn x = x % 4
+
+abbrev pub usedIn : ℕ → ℕ
+usedIn x = flagsIn x / 2
 
 abbrev pub askedIn : ℕ → ℕ
 askedIn x = x / 128

@@ -11,9 +11,10 @@ use Rattle.model.specs.Layout.{free, Layout, words}
 use Rattle.model.specs.Sound.{Sound, Valid, Here}
 use Rattle.model.specs.Rules.{nothing, find, stays}
 use Rattle.model.specs.Live.{_∈_, InTurn, Payload, content, live}
-use Rattle.model.specs.Reading.{Step, Statistics, lookedUp}
+use Rattle.model.specs.Reading.{Step, Statistics, counted, lookedUp}
+use Rattle.model.specs.Sweeping.{empties}
 use Rattle.model.specs.Refusals.{badLength, notOpened, notSound, badSize, notLive, noRoom, alreadyOpened}
-use Rattle.model.specs.Calls.{Way, staying, moving, keeping, Outcome, Told, refused, granted, orNext, Lent, Initialises, Checks, Allocates, Frees, Resizes, ResizesBy, ResizesInPlace, Moves, Keeps, LooksUp, Steps, Counts, Tabulates}
+use Rattle.model.specs.Calls.{Way, staying, moving, keeping, Outcome, Told, refused, granted, orNext, Lent, Initialises, Checks, Allocates, Frees, Resizes, ResizesBy, ResizesInPlace, Moves, Keeps, Sweeps, LooksUp, Steps, Counts, Tabulates}
 
 -- a call that may change the heap, by its sizes and addresses
 pub data Call : Type 0 where
@@ -23,6 +24,7 @@ pub data Call : Type 0 where
   freeing : ℕ → Call
   resizing : ℕ → ℕ → Call
   resizingBy : Way → ℕ → ℕ → Call
+  sweeping : Call
 
 -- the numbers that a call can answer at all; those that a call that only reads can, and a look-up
 unfoldable pub numbersOf : Call → List ℕ
@@ -32,6 +34,7 @@ numbersOf (allocating n) = 0 ∷ badLength ∷ notOpened ∷ notSound ∷ badSiz
 numbersOf (freeing a) = 0 ∷ badLength ∷ notOpened ∷ notSound ∷ notLive ∷ []
 numbersOf (resizing a n) = 0 ∷ badLength ∷ notOpened ∷ notSound ∷ badSize ∷ notLive ∷ noRoom ∷ []
 numbersOf (resizingBy v a n) = 0 ∷ badLength ∷ notOpened ∷ notSound ∷ badSize ∷ notLive ∷ noRoom ∷ []
+numbersOf sweeping = 0 ∷ badLength ∷ notOpened ∷ notSound ∷ []
 
 abbrev pub readingNumbers : List ℕ
 readingNumbers = 0 ∷ badLength ∷ notOpened ∷ notSound ∷ []
@@ -48,6 +51,7 @@ module _ (S : Shape) where
   Comes b (freeing a) r = Frees S b a r
   Comes b (resizing a n) r = Resizes S b a n r
   Comes b (resizingBy v a n) r = ResizesBy S v b a n r
+  Comes b sweeping r = Sweeps S b r
 
   -- Demand 1: a refusal answers address 0 and leaves every byte as it was
   abbrev pub RefusedUntouched : Type 0
@@ -190,6 +194,24 @@ module _ (S : Shape) where
       → (r .refusal ≡ noRoom → s .refusal ≡ noRoom → Keeps S (s .heap) a n t)
       → Resizes S b a n (orNext r (orNext s t))
 
+  -- a sweep changes no live payload, and makes nothing live or dead
+  abbrev pub SweepKept : List ℕ → Layout → Outcome → Layout → Type 0
+  SweepKept b L r L′ = (live S L′ ≡ live S L) × ((x : Payload) → x ∈ live S L → content (r .heap) x ≡ content b x)
+
+  abbrev pub SweepKeeps : Type 0
+  SweepKeeps = (b : List ℕ) (r : Outcome) (L L′ : Layout) → Grants b sweeping r L L′ → SweepKept b L r L′
+
+  -- a second one straight after answers 0 and changes no byte
+  abbrev pub SweptStays : Type 0
+  SweptStays = (b : List ℕ) (r t : Outcome) → Sweeps S b r → r .refusal ≡ 0 → Sweeps S (r .heap) t → t ≡ granted 0 (r .heap)
+
+  -- it answers the number of pages that it gives back: those with no live item, and so many pages are fewer
+  abbrev pub SweepCounted : Layout → Outcome → Layout → Type 0
+  SweepCounted L r L′ = (r .address ≡ empties (L .blocks)) × (counted (L′ .blocks) .pages + r .address ≡ counted (L .blocks) .pages)
+
+  abbrev pub SweepCounts : Type 0
+  SweepCounts = (b : List ℕ) (r : Outcome) (L L′ : Layout) → Grants b sweeping r L L′ → SweepCounted L r L′
+
   -- "no room" exactly when there is no item and no block that fits
   abbrev pub NoBlock : ℕ → Layout → Type 0
   NoBlock need L = (t : ℕ) → free t ∈ L .blocks → t < need
@@ -227,7 +249,7 @@ module _ (S : Shape) where
       (length b′ ≡ length b)
       × ((L : Layout) → Here S b L → (i : ℕ) → ((x : Payload) → x ∈ live S L → x .address ≤ i → i < x .address + x .size → ⊥) → getD b′ i 0 ≡ getD b i 0)
 
-  -- an allocation or a free
+  -- an allocation, a free or a sweep
   abbrev pub Plain : Call → Type 0
   Plain initialising = ⊥
   Plain checking = ⊥
@@ -235,13 +257,14 @@ module _ (S : Shape) where
   Plain (freeing a) = Unit {0}
   Plain (resizing a n) = ⊥
   Plain (resizingBy v a n) = ⊥
+  Plain sweeping = Unit {0}
 
   -- what a call of a run answered
   pub record Reply : Type 0 where
     pub refusal : ℕ
     pub address : ℕ
 
-  -- a run of allocations and frees from bytes b, with writes before each: what was answered
+  -- a run of allocations, frees and sweeps from bytes b, with writes before each: what was answered
   pub data Run : List ℕ → List Call → List Reply → Type 0 where
     over : {b : List ℕ} → Run b [] []
     call : {b : List ℕ} (b′ : List ℕ) {q : Call} {qs : List Call} {r : Outcome} {rs : List Reply}
@@ -279,6 +302,9 @@ module _ (S : Shape) where
     pub in-place-stays : InPlaceStays
     pub move-moves : MoveMoves
     pub split-gives : SplitGives
+    pub sweep-keeps : SweepKeeps
+    pub swept-stays : SweptStays
+    pub sweep-counts : SweepCounts
     pub no-room-exactly : NoRoomExactly
     pub smaller-kept : SmallerKept
     pub longer-agrees : LongerAgrees

@@ -1,3 +1,6 @@
 pub mod Links
 pub mod Walks
 pub mod Headers
+pub mod Laid
+pub mod Items
+pub mod Pages

@@ -6,7 +6,7 @@ ghost use Prim.Native.Nat.{_+_, _*_, _≤_, _<_, _^_};
 ghost use Rattle.words.specs.Width.{Width};
 ghost use Rattle.model.specs.Shape.{shape, endOf, classOf, needOf, index, start, tags, leastFree, shortest, leastVariable, largestItem, itemSize, itemCapacity, itemShown, blockCapacity, pageNeed, addressOf, positionOf, offsetOf, itemAt};
 ghost use Rattle.model.specs.inner.Headers.{leastHeader, SameClass};
-ghost use Rattle.model.specs.Parts.{tagOf, sizeIn, kindIn, freeHeader, heldHeader, flagsIn, askedIn, freeMark, classAndFlags, classIn, nextIn, dataAt, indexAt, firstFreeAt, endAt, indexTag, indexTagAt, indexFarTagAt, headAt, farTagAt, nextAt, previousAt, firstItemAt};
+ghost use Rattle.model.specs.Parts.{tagOf, sizeIn, kindIn, freeHeader, heldHeader, flagsIn, usedIn, askedIn, freeMark, classAndFlags, classIn, nextIn, dataAt, indexAt, firstFreeAt, endAt, indexTag, indexTagAt, indexFarTagAt, headAt, farTagAt, nextAt, previousAt, firstItemAt};
 
 // A place counted in bytes from the start of the buffer.
 pub struct Position(pub usize);
@@ -103,6 +103,15 @@ pub fn longest(w: usize) -> usize
 {
     if w == 8 { MOST_BYTES } else { 65536 }
 }
+
+// The pages of the longest heap at most, with words of 8 bytes and of 4, and those of a heap of so many bytes: an array's length is a constant.
+pub const MOST_PAGES: usize = 256;
+
+pub const MOST_HAND_PAGES: usize = 2048;
+
+pub const FEW_PAGES: usize = 16;
+
+pub const FEW_PAGES_BYTES: usize = 65536;
 
 // The end of a heap of n bytes.
 pub fn end_of(n: usize) -> Position
@@ -420,11 +429,17 @@ pub fn next_in(w: usize, x: usize) -> ItemOffset
     ItemOffset(x / (16 * w) * w)
 }
 
-// Its flags; and where they say that it is in use, the size that was asked for.
+// Its flags, and 1 where they are those of an item in use, 0 of a free one; and of one in use the size that was asked for.
 pub fn flags_in(x: usize) -> usize
     ensures { λ r. ⌜ r ≡ flagsIn x ⌝ }
 {
     x % 4
+}
+
+pub fn used_in(x: usize) -> usize
+    ensures { λ r. ⌜ r ≡ usedIn x ⌝ }
+{
+    x % 4 / 2
 }
 
 pub fn asked_in(x: usize) -> usize

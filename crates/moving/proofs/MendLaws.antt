@@ -21,18 +21,19 @@ use Rattle.model.specs.inner.Walks.{flag, lastFree, Stands, Mend}
 use Rattle.model.proofs.blocks.Middle.{middle-at, free-read}
 use Rattle.model.specs.inner.Links.{backOf}
 use Rattle.model.proofs.walks.Standing.{Met, met, blockTag}
+use Rattle.model.proofs.items.Aligned.{laid}
 use Rattle.model.proofs.walks.Finding.{behinds, find-past, find-at}
 use Rattle.model.proofs.blocks.Mending.{NoFree, Last, last-of, Before}
-use Rattle.find.specs.declared.VariableBlock.{VariableBlock}
+use Rattle.find.specs.declared.UsedBlock.{UsedBlock}
 use Rattle.links.specs.Links.{BackRoom}
 use Rattle.find.specs.Find.{BlockFound}
 use Rattle.moving.specs.Mend.{BlockLiveAt, Mendable, Mended}
-use Rattle.releasing.proofs.ReleaseLaws.{blocks-are}
+use Rattle.releasing.proofs.ReleaseLaws.{found-in-use}
 
 -- what is read where a block begins
 module _ {w : ℕ} (wd : Width w) {b : List ℕ} {L : Layout} (h : Here (shape w) b L) where
   read-at : (low : List Block) (x : Block) (rest : List Block) (q : ℕ) → L .blocks ≡ low ++ (x ∷ rest) → ends (shape w) (start (shape w)) low ≡ q → Met w b L q (lastFree (shape w) (start (shape w)) low 0) x rest
-  read-at low x rest q e at = met wd h (record { pre = low; rest = x ∷ rest; blocks = e; begins = at; before = refl; touches = refl }) x rest refl
+  read-at low x rest q e at = met wd (laid wd h) (record { pre = low; rest = x ∷ rest; blocks = e; begins = at; before = refl; touches = refl }) x rest refl
 
   -- a free block's tag is its size, a multiple of 8; that of a block in use is none, and says the size too
   free-tag : (low : List Block) (k : ℕ) (rest : List Block) (q : ℕ) → L .blocks ≡ low ++ (free k ∷ rest) → ends (shape w) (start (shape w)) low ≡ q → (wordAt w b q % 8 ≡ 0) × (4 * w ≤ wordAt w b q) × (q + wordAt w b q ≤ length b)
@@ -119,7 +120,7 @@ module _ {w : ℕ} (wd : Width w) {b : List ℕ} {L : Layout} (h : Here (shape w
   none-before p s prev left before (inr (inr k)) z = absurd (omega (arith, k .at, le-ends (shape w) (start (shape w)) (k .low)))
 
 -- each way through mend
-module _ {w : ℕ} {b : List ℕ} {x : VariableBlock} {before : ℕ} (k : Mendable w b x before) where
+module _ {w : ℕ} {b : List ℕ} {x : UsedBlock} {before : ℕ} (k : Mendable w b x before) where
   pub none-taken : x .prev .0 ≡ 0 → Mended w b x before x
   none-taken z = record { at = refl; size = refl; stands = λ L h m. none-before (k .width) h (x .at .0) (x .size) (x .prev .0) (flag (x .touching)) before m z }
 
@@ -170,19 +171,19 @@ module _ {w : ℕ} {b : List ℕ} {x : VariableBlock} {before : ℕ} (k : Mendab
               }
 
 -- a block that was found stands there
-pub found-stands : {w : ℕ} → Width w → (b : List ℕ) (L : Layout) (a : ℕ) (t : Spot) (x : VariableBlock) → Here (shape w) b L → BlockFound w L a t x → Stands (shape w) L (x .at .0) (x .size) (x .prev .0) (flag (x .touching))
+pub found-stands : {w : ℕ} → Width w → (b : List ℕ) (L : Layout) (a : ℕ) (t : Spot) (x : UsedBlock) → Here (shape w) b L → BlockFound w L a t x → Stands (shape w) L (x .at .0) (x .size) (x .prev .0) (flag (x .touching))
 found-stands wd b L a t x h f =
     record {
       pre = t .pre;
       post = t .post;
-      blocks = blocks-are wd b L a t x h f ∙ ap (λ (y : ℕ). t .pre ++ (used (variable y) ∷ t .post)) (f .size);
+      blocks = found-in-use wd L a t x f .blocks ∙ ap (λ (y : ℕ). t .pre ++ (used (variable y) ∷ t .post)) (f .size);
       begins = f .at;
       before = f .before;
       touches = f .touches;
     }
 
 -- and a block that stands there is found
-pub stands-found : {w : ℕ} → Width w → (b : List ℕ) (L : Layout) (a : ℕ) (x : VariableBlock) → Here (shape w) b L → a ≡ x .at .0 + w → Stands (shape w) L (x .at .0) (x .size) (x .prev .0) (flag (x .touching)) → (t : Spot) × BlockFound w L a t x
+pub stands-found : {w : ℕ} → Width w → (b : List ℕ) (L : Layout) (a : ℕ) (x : UsedBlock) → Here (shape w) b L → a ≡ x .at .0 + w → Stands (shape w) L (x .at .0) (x .size) (x .prev .0) (flag (x .touching)) → (t : Spot) × BlockFound w L a t x
 stands-found {w} wd b L a x h e k =
     let post : List Block = used (variable (x .size)) ∷ k .post in
     let all : AllAllowed (shape w) (k .pre ++ post) = subst (λ (l : List Block). AllAllowed (shape w) l) (k .blocks) (h .valid .allowed) in
@@ -201,7 +202,7 @@ stands-found {w} wd b L a x h e k =
     )
 
 -- what is read before the allocation: the free block before the one at prev
-module _ {w : ℕ} {b : List ℕ} {a : ℕ} {x : VariableBlock} (i : BlockLiveAt w b a x) where
+module _ {w : ℕ} {b : List ℕ} {a : ℕ} {x : UsedBlock} (i : BlockLiveAt w b a x) where
   stands-now : (L : Layout) → Here (shape w) b L → Stands (shape w) L (x .at .0) (x .size) (x .prev .0) (flag (x .touching))
   stands-now L h = found-stands (i .ready .width) b L a (i .is L h .0) x h (i .is L h .1)
 

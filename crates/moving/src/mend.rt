@@ -1,5 +1,5 @@
 // The free block before a variable block, found again without a walk once an allocation may have taken it.
-use find::VariableBlock;
+use find::UsedBlock;
 use model::FREE;
 use model::Position;
 use model::kind_in;
@@ -8,7 +8,7 @@ use words::word;
 ghost use Rattle.moving.specs.Mend.{Mendable, Mended};
 
 // The block x as it is found now; `before` is the free block that stood before the one at x's prev.
-pub fn mend(w: usize, h: &[u8], x: VariableBlock, before: Position) -> VariableBlock
+pub fn mend(w: usize, h: &[u8], x: UsedBlock, before: Position) -> UsedBlock
     requires { ⌜ Mendable w (now h) x (before .0) ⌝ }
     ensures { λ r. ⌜ Mended w (now (h .entry)) x (before .0) r ⌝ }
 {
@@ -25,14 +25,14 @@ pub fn mend(w: usize, h: &[u8], x: VariableBlock, before: Position) -> VariableB
     let size = x.size;
     let touching = x.touching;
     if kind_in(word(w, h, q.0)) == FREE {
-        return VariableBlock {
+        return UsedBlock {
             at: at,
             size: size,
             prev: q,
             touching: touching,
         };
     }
-    VariableBlock {
+    UsedBlock {
         at: at,
         size: size,
         prev: before,

@@ -20,6 +20,7 @@ use Rattle.model.proofs.blocks.Middle.{Middle, start-le}
 use Rattle.model.specs.inner.Links.{putIf, takes, restAt, itemWords}
 use Rattle.model.proofs.blocks.Spots.{spot-middle}
 use Rattle.model.proofs.blocks.Taken.{takes-of, block-in}
+use Rattle.model.proofs.pictures.Drawn.{tiled}
 use Rattle.model.proofs.pictures.Relist.{head-middle, head-over}
 use Rattle.model.proofs.pictures.Heads.{empty-list, none-idle}
 use Rattle.model.proofs.items.PageWords.{first-offset, items-linked}
@@ -59,7 +60,7 @@ module _ {w : ℕ} {b : List ℕ} {p c : ℕ} (k : NoItem w b c) where
       pub page-middle : Middle (shape w) b₁ (endOf (length b)) (set (L .lists) c (pageList (shape w) c p)) (t .pre) (free (t .size) ∷ []) (t .post) p (p + t .size) (lastFree (shape w) (start (shape w)) (t .pre) 0) (firstFree (shape w) (p + t .size) (t .post) 0)
       page-middle =
           rw put-is
-          (head-middle (shape w) (shape-good (k .width)) (endOf (length b)) L (x .here .valid) c (k .class) (pageList (shape w) c p) (spot-middle (shape w) x) (x .split .blocks)
+          (head-middle (shape w) (shape-good (k .width)) (endOf (length b)) L (tiled (shape w) (x .here .valid)) c (k .class) (pageList (shape w) c p) (spot-middle (shape w) x) (x .split .blocks)
           (omega (arith, first-is, page-in, page-low, words-fit (k .width) (length b) (k .short))) (omega (arith, k .short)) (none-idle (shape w) (shape-good (k .width)) b L (x .here) c (k .class) empty))
 
       pub page-drawn : Bytes b → (g : Gap) → GapRead w b₁ p g → (u need : ℕ) → need ≡ pageNeed (shape w) c → u ≡ takes (shape w) need (g .size)
@@ -77,5 +78,5 @@ module _ {w : ℕ} {b : List ℕ} {p c : ℕ} (k : NoItem w b c) where
           (rw e₁ (bytes-put w b head first bytes)) (omega (arith, len, k .short)) (rw u-is v) h₁ h₂ h₃ d₁ d₂ d₃) in
           written
           ∙ ap (λ (y : List ℕ). draw w (words (shape w) (endOf (length b)) (pageLayout (shape w) c p L t)) y) put-is
-          ∙ head-over (shape w) (shape-good (k .width)) (endOf (length b)) L (x .here .valid) c (k .class) (pageList (shape w) c p) b (pageLayout (shape w) c p L t) (omega arith) bytes (omega (arith, k .short)) v
+          ∙ head-over (shape w) (shape-good (k .width)) (endOf (length b)) L (tiled (shape w) (x .here .valid)) c (k .class) (pageList (shape w) c p) b (pageLayout (shape w) c p L t) (omega arith) bytes (omega (arith, k .short)) (tiled (shape w) v)
           ∙ rw (paged-as (shape w) c p (x .here .valid) (x .split) (x .at) (shape-good (k .width))) refl

@@ -11,9 +11,10 @@ use Rattle.model.specs.Shape.{shape, endOf}
 use Rattle.model.specs.Layout.{Layout, words}
 use Rattle.model.specs.Sound.{Valid, Here}
 use Rattle.model.specs.Rules.{Made, Found, block, thing, nothing, allocate, find, freed}
+use Rattle.model.specs.Sweeping.{empties, swept}
 use Rattle.model.specs.Refusals.{notLive, noRoom}
-use Rattle.model.specs.Calls.{Outcome, refused, granted, Lent, GoodSize, drawn, sized, found, allocated, without}
-use Rattle.model.specs.Promises.{Call, initialising, checking, allocating, freeing, resizing, resizingBy, Comes, Plain}
+use Rattle.model.specs.Calls.{Outcome, refused, granted, Lent, GoodSize, drawn, drawnInTurn, sized, found, allocated, without}
+use Rattle.model.specs.Promises.{Call, initialising, checking, allocating, freeing, resizing, resizingBy, sweeping, Comes, Plain}
 use Rattle.model.proofs.Good.{shape-good}
 use Rattle.model.proofs.pictures.Pictures.{length-draw, bytes-draw}
 use Rattle.model.proofs.pictures.Drawn.{drawn-here, drawn-same}
@@ -22,6 +23,7 @@ use Rattle.model.proofs.lives.FreeLives.{freed-removes}
 use Rattle.model.proofs.rules.Allocation.{allocate-grants}
 use Rattle.model.proofs.rules.Sized.{good, bad, good-or-bad}
 use Rattle.model.proofs.rules.OnLayouts.{Done, refuse, grant, sizedOn, doing}
+use Rattle.model.proofs.sweeps.Stages.{swept-length, swept-here, swept-bytes, swept-still}
 
 module _ {w : ℕ} (wd : Width w) where
   -- an outcome is what was done on the layout; where that stays, so does every byte
@@ -84,6 +86,11 @@ module _ {w : ℕ} (wd : Width w) where
         go (block t) e = rw e (drew _ (freed (shape w) (block t) L) (freed-valid a (block t) e refl))
         go (thing o c k) e = rw e (drew _ (freed (shape w) (thing o c k) L) (freed-valid a (thing o c k) e refl))
 
+    sweeping-does : Does b L (granted (empties (L .blocks)) (drawnInTurn (shape w) (swept (shape w) L) b)) (doing (shape w) sweeping L)
+    unfolding doing
+    sweeping-does =
+        record { refusal = refl; address = refl; same = swept-length wd b L h (l .1); here = swept-here wd b L h (l .1); bytes = swept-bytes wd b L h (l .1); still = swept-still wd b L h (l .1) }
+
     pub does-same : (r o : Outcome) (d : Done) → r ≡ o → Does b L o d → Does b L r d
     does-same r o d e x = subst (λ (y : Outcome). Does b L y d) (sym e) x
 
@@ -96,3 +103,4 @@ module _ {w : ℕ} (wd : Width w) where
         does-same r (found (shape w) (find (shape w) a L) (refused b notLive) (granted 0 (drawn (shape w) (without (shape w) a L) b))) (doing (shape w) (freeing a) L) (c .sound l L h) (freeing-does a)
     answers (resizing a n) p r c = absurd p
     answers (resizingBy v a n) p r c = absurd p
+    answers sweeping p r c = does-same r (granted (empties (L .blocks)) (drawnInTurn (shape w) (swept (shape w) L) b)) (doing (shape w) sweeping L) (c .sound l L h) sweeping-does

@@ -5,7 +5,7 @@ use mathlib.Core.List.{List}
 use Rattle.model.specs.Shape.{Shape}
 use Rattle.model.specs.Layout.{Layout}
 use Rattle.model.specs.Calls.{Outcome, Checked, Initialises}
-use Rattle.model.specs.Promises.{initialising, checking, allocating, freeing, resizing, resizingBy, Comes, Determined, ReadingDetermined}
+use Rattle.model.specs.Promises.{initialising, checking, allocating, freeing, resizing, resizingBy, sweeping, Comes, Determined, ReadingDetermined}
 use Rattle.promises.proofs.Stable.{Stable, numbers, lists, outcomes, tolds, steps, statistics}
 use Rattle.promises.proofs.Cases.{checked-cases, opening-cases}
 
@@ -26,6 +26,7 @@ determined S b (allocating n) r r′ c d = checked-one S b outcomes _ _ r r′ c
 determined S b (freeing a) r r′ c d = checked-one S b outcomes _ _ r r′ c d
 determined S b (resizing a n) r r′ c d = checked-one S b outcomes _ _ r r′ c d
 determined S b (resizingBy v a n) r r′ c d = checked-one S b outcomes _ _ r r′ c d
+determined S b sweeping r r′ c d = checked-one S b outcomes _ _ r r′ c d
 
 pub reading-determined : (S : Shape) → ReadingDetermined S
 reading-determined S b = (

@@ -8,7 +8,7 @@ use Rattle.model.specs.Layout.{Layout}
 use Rattle.model.specs.Sound.{Here}
 use Rattle.model.specs.Refusals.{alreadyOpened}
 use Rattle.model.specs.Calls.{Outcome, refused, granted, Lent, sized}
-use Rattle.model.specs.Promises.{Call, initialising, checking, allocating, freeing, resizing, resizingBy, Comes}
+use Rattle.model.specs.Promises.{Call, initialising, checking, allocating, freeing, resizing, resizingBy, sweeping, Comes}
 use Rattle.model.proofs.Good.{shape-good}
 use Rattle.model.proofs.lives.StayLives.{stays-stayed}
 use Rattle.model.proofs.rules.OnLayouts.{Done, sizedOn, doing}
@@ -38,3 +38,4 @@ module _ {w : ℕ} (wd : Width w) where
     does (freeing a) r c = answers wd b L l h (freeing a) tt r c
     does (resizing a n) r c = resizing-does (went (shape w) b a n L) r (c .sound l L h)
     does (resizingBy v a n) r c = resizing-does (went-by (shape w) b a n L v) r (c .sound l L h)
+    does sweeping r c = answers wd b L l h sweeping tt r c

@@ -14,15 +14,17 @@ use Rattle.words.specs.Word.{wordAt, Bytes}
 use Rattle.model.specs.Picture.{Word, Shows}
 use Rattle.model.specs.Shape.{wide, endOf}
 use Rattle.model.specs.Layout.{Layout, headOf, nextOf, useSize, sizeOf, ends, firstFree, header, slotWords, useWords, own, blockWords, headWords, fixedLow, fixedHigh, words}
-use Rattle.model.specs.Sound.{Here, idleSlots}
+use Rattle.model.specs.Sound.{Here, idleSlots, idleIn}
 use Rattle.model.specs.Rules.{fit, before, inFront, cut, slotTo, useTo, itemTo, fromList, fromPage, anItem, aBlock, allocate, inSlots, findFrom, freed, shrunk, grown, reshaped, stays, fresh}
 use Rattle.model.specs.Live.{_∈_}
+use Rattle.model.specs.Reading.{total, heldIn, ofBlock}
+use Rattle.model.specs.Sweeping.{emptyPage, idleWith, relinked, relinkedFrom}
 use Rattle.model.specs.Refusals.{badLength}
 use Rattle.model.specs.Calls.{Outcome, refused, Lent, Opened, Initialises}
-use Rattle.model.specs.Promises.{Call, initialising, checking, allocating, freeing, resizing, resizingBy, Comes, Reply}
+use Rattle.model.specs.Promises.{Call, initialising, checking, allocating, freeing, resizing, resizingBy, sweeping, Comes, Reply}
 use Rattle.promises.specs.Figures.{says, Figure, table, Outcomes, heapThen, heapBefore, answered, OnBytes}
 use Rattle.model.proofs.Sizes.{eight}
-use Rattle.model.proofs.rules.OnLayouts.{resizedByOn, resizedOn, doing}
+use Rattle.model.proofs.rules.OnLayouts.{resizedByOn, resizedOn, recovered, doing}
 use Rattle.promises.proofs.Opened.{opened-fresh}
 use Rattle.promises.proofs.Doing.{does}
 
@@ -101,7 +103,7 @@ allStated (f ∷ fs) = stated f ∷ allStated fs
 
 -- the table, computed
 on-layouts : allComputed table ≡ allStated table
-unfolding table layoutThen layoutBefore lastOn lastFrom answersOn allBad lends answersFrom pictureFrom valueAt valuesAt values computed stated allComputed allStated resizedByOn resizedOn doing headOf nextOf useSize sizeOf ends firstFree header slotWords useWords own blockWords headWords fixedLow fixedHigh words idleSlots fit before inFront cut slotTo useTo itemTo fromList fromPage anItem aBlock allocate inSlots findFrom freed shrunk grown reshaped stays
+unfolding table layoutThen layoutBefore lastOn lastFrom answersOn allBad lends answersFrom pictureFrom valueAt valuesAt values computed stated allComputed allStated resizedByOn resizedOn emptyPage idleIn idleWith relinked relinkedFrom recovered total heldIn ofBlock doing headOf nextOf useSize sizeOf ends firstFree header slotWords useWords own blockWords headWords fixedLow fixedHigh words idleSlots fit before inFront cut slotTo useTo itemTo fromList fromPage anItem aBlock allocate inSlots findFrom freed shrunk grown reshaped stays
 on-layouts = refl
 
 -- a picture's value is a word of bytes that show it
@@ -169,6 +171,7 @@ bad-comes b (allocating k) r n c = c .one n
 bad-comes b (freeing a) r n c = c .one n
 bad-comes b (resizing a k) r n c = c .one n
 bad-comes b (resizingBy v a k) r n c = c .one n
+bad-comes b sweeping r n c = c .one n
 
 bad-runs : (qs : List Call) (b : List ℕ) (rs : List Outcome) → (Lent wide b → ⊥) → Outcomes b qs rs → answered rs ≡ allBad qs
 unfolding Outcomes answered allBad

@@ -16,6 +16,7 @@ pub mod ResizeKept
 pub mod Places
 pub mod AskedShown
 pub mod StaysSound
+pub mod SweepKept
 pub mod NoRoomExact
 pub mod Longer
 pub mod Doing
@@ -23,5 +24,6 @@ pub mod LookedUp
 pub mod Promised
 pub mod OneResult
 pub mod AnswersPromised
+pub mod SweepPromised
 pub mod FiguresOfCalls
 pub mod Needed

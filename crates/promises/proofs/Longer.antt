@@ -1,4 +1,4 @@
--- Demand 3: of two fresh heaps, one longer, the same run of allocations and frees gives the same answers, as long as the shorter one never says "no room".
+-- Demand 3: of two fresh heaps, one longer, the same run of allocations, frees and sweeps gives the same answers, as long as the shorter one never says "no room".
 use Prim.Native.Nat.{ℕ}
 use mathlib.Core.Path.{_≡_, refl, sym, ap, ap₂, subst, _∙_}
 use mathlib.Core.List.{List, [], _∷_}
@@ -15,7 +15,8 @@ use Rattle.model.specs.Refusals.{noRoom}
 use Rattle.model.specs.Calls.{Outcome, Lent}
 use Rattle.model.specs.Promises.{Call, Comes, Written, Plain, Reply, Run, over, call, LongerAgrees}
 use Rattle.model.proofs.rules.OnLayouts.{doing}
-use Rattle.model.proofs.rules.Twins.{TwinLayouts, fresh-twins, doing-twins}
+use Rattle.model.proofs.rules.Twins.{TwinLayouts, fresh-twins}
+use Rattle.model.proofs.rules.TwinCalls.{doing-twins}
 use Rattle.promises.proofs.Opened.{opened-fresh}
 use Rattle.model.proofs.pictures.Written.{written-here}
 use Rattle.promises.proofs.Answers.{answers}

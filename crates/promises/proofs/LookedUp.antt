@@ -11,7 +11,7 @@ use Rattle.model.specs.Sound.{Here, Sound}
 use Rattle.model.specs.Live.{_∈_, Payload, content, live}
 use Rattle.model.specs.Reading.{lookedUp}
 use Rattle.model.specs.Calls.{staying, moving, keeping, granted, Lent}
-use Rattle.model.specs.Promises.{Call, initialising, checking, allocating, freeing, resizing, resizingBy, Comes, GrantShows}
+use Rattle.model.specs.Promises.{Call, initialising, checking, allocating, freeing, resizing, resizingBy, sweeping, Comes, GrantShows}
 use Rattle.model.specs.declared.Address.{Address}
 use Rattle.model.proofs.Sizes.{eight}
 use Rattle.model.proofs.lives.Payloads.{in-area}
@@ -32,6 +32,7 @@ shows n (resizing a m) k = absurd k
 shows n (resizingBy staying a m) k = subst (λ (j : ℕ). GrantShows wide (resizingBy staying a m) j) k (asked-shown eight a m .1)
 shows n (resizingBy moving a m) k = subst (λ (j : ℕ). GrantShows wide (resizingBy moving a m) j) k (asked-shown eight a m .2)
 shows n (resizingBy keeping a m) k = absurd k
+shows n sweeping k = absurd k
 
 -- what is shown of a live payload is as long as it says
 shown-length : (c : List ℕ) (M : Layout) → Here wide c M → (x : Payload) → x ∈ live wide M → length (lookedUp wide c (x .address) M) ≡ x .shown

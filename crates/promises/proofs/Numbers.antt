@@ -13,9 +13,10 @@ use Rattle.model.specs.Layout.{Layout}
 use Rattle.model.specs.Rules.{Made, Found, block, thing, nothing, allocate, find}
 use Rattle.model.specs.Reading.{counted, table, lookedUp, ended, step}
 use Rattle.model.specs.Live.{_∈_}
+use Rattle.model.specs.Sweeping.{empties, swept}
 use Rattle.model.specs.Refusals.{badLength, notOpened, notSound, badSize, notLive, noRoom, alreadyOpened}
-use Rattle.model.specs.Calls.{Outcome, Told, refused, granted, Checked, sized, found, made, allocated, drawn, without, resized, resizedBy}
-use Rattle.model.specs.Promises.{initialising, checking, allocating, freeing, resizing, resizingBy, numbersOf, readingNumbers, lookUpNumbers, Comes, AnswersOnly, ReadingAnswersOnly}
+use Rattle.model.specs.Calls.{Outcome, Told, refused, granted, Checked, sized, found, made, allocated, drawn, drawnInTurn, without, resized, resizedBy}
+use Rattle.model.specs.Promises.{initialising, checking, allocating, freeing, resizing, resizingBy, sweeping, numbersOf, readingNumbers, lookUpNumbers, Comes, AnswersOnly, ReadingAnswersOnly}
 use Rattle.model.proofs.rules.OnLayouts.{Done}
 use Rattle.model.proofs.rules.ResizeWays.{Went, nowhere, inPlace, elsewhere, asItIs, noWay, went, went-by}
 use Rattle.promises.proofs.Cases.{checked-cases, opening-cases}
@@ -118,6 +119,9 @@ answers-only S b (freeing a) r c =
     r c
 answers-only S b (resizing a n) r c = resizing-only S b a n (resized S b a n) (went S b a n) r c
 answers-only S b (resizingBy v a n) r c = resizing-only S b a n (resizedBy S v b a n) (λ L. went-by S b a n L v) r c
+answers-only S b sweeping r c =
+    let l = numbersOf sweeping in
+    refused-in S b l (stands badLength l refl) (stands notOpened l refl) (stands notSound l refl) (λ L. granted (empties (L .blocks)) (drawnInTurn S (swept S L) b)) (λ L. stands 0 l refl) r c
 
 pub reading-answers-only : (S : Shape) → ReadingAnswersOnly S
 unfolding isIn

@@ -14,7 +14,7 @@ use Rattle.model.specs.Sound.{Sound}
 use Rattle.model.specs.Reading as reading
 use Rattle.model.specs.Reading.{aFree, aVariable, aPage, theEnd}
 use Rattle.model.specs.Calls.{Outcome, Told, Lent, number, Initialises, Allocates, Frees, Resizes}
-use Rattle.model.specs.Promises.{initialising, allocating, freeing, resizing, Comes}
+use Rattle.model.specs.Promises.{initialising, allocating, freeing, resizing, sweeping, Comes}
 use Rattle.reading.specs.declared.stepping.Kind.{Kind}
 use Rattle.reading.specs.declared.stepping.Kind.the-variants.{Free, Variable, Page, End}
 use Rattle.reading.specs.Stepping.{toldKind}
@@ -22,11 +22,13 @@ use Rattle.heap.specs.declared.Answer.{Answer}
 use Rattle.heap.specs.declared.Answer.the-variants.{Granted, Refused}
 use Rattle.heap.specs.declared.Refusal.{Refusal}
 use Rattle.heap.specs.declared.Refusal.the-variants.{BadLength, NotOpened, NotSound, BadSize, NotLive, NoRoom, AlreadyOpened}
+use Rattle.heap.specs.declared.recovery.Swept.{Swept}
+use Rattle.heap.specs.declared.recovery.Swept.the-variants as swept
 use Rattle.heap.specs.declared.Verdict.{Verdict}
 use Rattle.heap.specs.declared.Verdict.the-variants.{Fine, Unfit}
 use Rattle.heap.specs.declared.counting.Counted.{Counted}
 use Rattle.heap.specs.declared.walking.Step.{Step}
-use Rattle.heap.specs.Answers.{outcome, refusalNumber, UnfitFor, Examined}
+use Rattle.heap.specs.Answers.{outcome, sweptOutcome, refusalNumber, UnfitFor, Examined}
 use Rattle.heap.specs.Counting.{toldCounted}
 use Rattle.heap.specs.Walking.{toldStep}
 use Rattle.heap.specs.Lookup.{Part}
@@ -75,6 +77,12 @@ outcome-one (Granted a) (Granted x) c c′ e = (ap (λ (o : Outcome). Granted (r
 outcome-one (Granted a) (Refused k) c c′ e = absurd (omega (arith, refusal-some k, ap (λ (o : Outcome). o .refusal) e))
 outcome-one (Refused k) (Granted a) c c′ e = absurd (omega (arith, refusal-some k, ap (λ (o : Outcome). o .refusal) e))
 outcome-one (Refused k) (Refused j) c c′ e = (ap (λ (z : Refusal). Refused z) (refusal-one k j (ap (λ (o : Outcome). o .refusal) e)), ap (λ (o : Outcome). o .heap) e)
+
+pub swept-one : (r r′ : Swept) (c c′ : List ℕ) → sweptOutcome r c ≡ sweptOutcome r′ c′ → (r ≡ r′) × (c ≡ c′)
+swept-one (swept.Pages n) (swept.Pages m) c c′ e = (ap (λ (o : Outcome). swept.Pages (o .address)) e, ap (λ (o : Outcome). o .heap) e)
+swept-one (swept.Pages n) (swept.Refused k) c c′ e = absurd (omega (arith, refusal-some k, ap (λ (o : Outcome). o .refusal) e))
+swept-one (swept.Refused k) (swept.Pages n) c c′ e = absurd (omega (arith, refusal-some k, ap (λ (o : Outcome). o .refusal) e))
+swept-one (swept.Refused k) (swept.Refused j) c c′ e = (ap (λ (z : Refusal). swept.Refused z) (refusal-one k j (ap (λ (o : Outcome). o .refusal) e)), ap (λ (o : Outcome). o .heap) e)
 
 -- a heap is unfit for one reason, and fine for none
 unfit-one : (b : List ℕ) (k j : Refusal) → UnfitFor b k → UnfitFor b j → k ≡ j
@@ -234,9 +242,11 @@ plays-one b lent kind body r r′ c c′ x y = go (ℕ-discrete kind 0)
         (ap₂ (λ (v : Line) (k : ℕ). record { line = v; lent = k }) (e .0) (x .still z ∙ sym (y .still z)), e .1)
 
 pub one-result : OneResult
+unfolding Comes
 one-result =
     record {
       answers = λ b q r r′ c c′ x y. outcome-one r r′ c c′ (determined wide b q (outcome r c) (outcome r′ c′) x y);
+      sweeps = λ b r r′ c c′ x y. swept-one r r′ c c′ (determined wide b sweeping (sweptOutcome r c) (sweptOutcome r′ c′) x y);
       verdicts = verdict-one;
       numbers = λ b q n n′ c c′ x y.
           let e : x .outcome ≡ y .outcome = determined wide b q (x .outcome) (y .outcome) (x .allowed) (y .allowed) in

@@ -19,6 +19,7 @@ use Rattle.promises.proofs.FreeKept.{free-keeps}
 use Rattle.promises.proofs.ResizeKept.{resize-keeps, each-way-keeps}
 use Rattle.promises.proofs.AskedShown.{asked-shown}
 use Rattle.promises.proofs.Places.{in-place-stays, move-moves}
+use Rattle.promises.proofs.SweepKept.{sweep-keeps, swept-stays, sweep-counts}
 use Rattle.promises.proofs.NoRoomExact.{no-room-exactly, smaller-kept}
 use Rattle.promises.proofs.Longer.{longer-agrees}
 
@@ -48,6 +49,9 @@ promised {w} wd =
       in-place-stays = in-place-stays (shape w);
       move-moves = move-moves wd;
       split-gives = split-gives (shape w);
+      sweep-keeps = sweep-keeps wd;
+      swept-stays = swept-stays wd;
+      sweep-counts = sweep-counts wd;
       no-room-exactly = no-room-exactly wd;
       smaller-kept = smaller-kept wd;
       longer-agrees = longer-agrees wd;

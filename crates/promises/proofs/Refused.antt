@@ -8,9 +8,10 @@ use lib.Dec.{leb}
 use Rattle.model.specs.Shape.{Shape}
 use Rattle.model.specs.Layout.{Layout}
 use Rattle.model.specs.Rules.{Made, Found, block, thing, nothing, allocate, find}
+use Rattle.model.specs.Sweeping.{empties, swept}
 use Rattle.model.specs.Refusals.{badLength, notOpened, notSound, badSize, notLive, alreadyOpened}
-use Rattle.model.specs.Calls.{Outcome, refused, granted, Checked, sized, found, made, allocated, drawn, without, resized, resizedBy, Initialises}
-use Rattle.model.specs.Promises.{initialising, checking, allocating, freeing, resizing, resizingBy, Comes, RefusedUntouched}
+use Rattle.model.specs.Calls.{Outcome, refused, granted, Checked, sized, found, made, allocated, drawn, drawnInTurn, without, resized, resizedBy, Initialises}
+use Rattle.model.specs.Promises.{initialising, checking, allocating, freeing, resizing, resizingBy, sweeping, Comes, RefusedUntouched}
 use Rattle.model.proofs.rules.OnLayouts.{Done}
 use Rattle.model.proofs.rules.ResizeWays.{Went, went, went-by, went-plain}
 use Rattle.promises.proofs.Stable.{outcomes}
@@ -72,3 +73,5 @@ refused-untouched S b (freeing a) r c =
     (λ L. found-plain b S (find S a L) (granted 0 (drawn S (without S a L) b)) (as-granted b 0 (drawn S (without S a L) b))) r c
 refused-untouched S b (resizing a n) r c = resizing-plain b S a n (resized S b a n) (went S b a n) r c
 refused-untouched S b (resizingBy v a n) r c = resizing-plain b S a n (resizedBy S v b a n) (λ L. went-by S b a n L v) r c
+refused-untouched S b sweeping r c =
+    checked-plain b S (λ L. granted (empties (L .blocks)) (drawnInTurn S (swept S L) b)) (λ L. as-granted b (empties (L .blocks)) (drawnInTurn S (swept S L) b)) r c

@@ -10,7 +10,7 @@ use Rattle.model.specs.Shape.{shape, shortest}
 use Rattle.model.specs.Layout.{Layout}
 use Rattle.model.specs.Sound.{Here, Sound}
 use Rattle.model.specs.Calls.{Outcome, refused, Lent, Checked}
-use Rattle.model.specs.Promises.{Call, initialising, checking, allocating, freeing, resizing, resizingBy, Comes, StaysSound}
+use Rattle.model.specs.Promises.{Call, initialising, checking, allocating, freeing, resizing, resizingBy, sweeping, Comes, StaysSound}
 use Rattle.model.proofs.rules.OnLayouts.{doing}
 use Rattle.promises.proofs.Refused.{refused-untouched}
 use Rattle.promises.proofs.Opened.{opens-sound}
@@ -39,6 +39,7 @@ module _ {w : ℕ} (wd : Width w) where
   granted-sound b (freeing a) r c g L h = done-sound b (freeing a) r c (lent-of b _ r c g) L h
   granted-sound b (resizing a n) r c g L h = done-sound b (resizing a n) r c (lent-of b _ r c g) L h
   granted-sound b (resizingBy v a n) r c g L h = done-sound b (resizingBy v a n) r c (lent-of b _ r c g) L h
+  granted-sound b sweeping r c g L h = done-sound b sweeping r c (lent-of b _ r c g) L h
 
   pub stays-sound : StaysSound (shape w)
   stays-sound b q r c s = go (ℕ-discrete (r .refusal) 0)

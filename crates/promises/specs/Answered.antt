@@ -12,17 +12,19 @@ use Rattle.model.specs.Sound.{Here, Sound}
 use Rattle.model.specs.Rules.{find, stays}
 use Rattle.model.specs.Live.{_∈_, Payload, live}
 use Rattle.model.specs.Walking.{column}
-use Rattle.model.specs.Calls.{Way, staying, moving, keeping, Lent, granted, Steps, Counts}
-use Rattle.model.specs.Promises.{Call, initialising, checking, allocating, freeing, resizing, resizingBy, numbersOf, Comes, AllocateKept, FreeKept, ResizeKept, NoRoom, NotOpen, NoRoomFor}
+use Rattle.model.specs.Calls.{Way, staying, moving, keeping, Lent, granted, Sweeps, Steps, Counts}
+use Rattle.model.specs.Promises.{Call, initialising, checking, allocating, freeing, resizing, resizingBy, sweeping, numbersOf, Comes, AllocateKept, FreeKept, ResizeKept, SweepKept, SweepCounted, NoRoom, NotOpen, NoRoomFor}
 use Rattle.model.specs.declared.Address.{Address}
 use Rattle.heap.specs.declared.Answer.{Answer}
 use Rattle.heap.specs.declared.Answer.the-variants.{Granted, Refused}
 use Rattle.heap.specs.declared.Refusal.{Refusal}
 use Rattle.heap.specs.declared.Refusal.the-variants as why
+use Rattle.heap.specs.declared.recovery.Swept.{Swept}
+use Rattle.heap.specs.declared.recovery.Swept.the-variants as swept
 use Rattle.heap.specs.declared.Verdict.{Verdict}
 use Rattle.heap.specs.declared.counting.Counted.{Counted}
 use Rattle.heap.specs.declared.walking.Step.{Step}
-use Rattle.heap.specs.Answers.{outcome, Examined}
+use Rattle.heap.specs.Answers.{outcome, sweptOutcome, Examined}
 use Rattle.heap.specs.Counting.{toldCounted, TableTold}
 use Rattle.heap.specs.Walking.{toldStep}
 use Rattle.heap.specs.Lookup.{Part, PartTold, RefusalTold}
@@ -34,9 +36,14 @@ use Rattle.records.specs.Lines.{Plays}
 abbrev pub MayAnswer : List ℕ → Call → Answer → List ℕ → Type 0
 MayAnswer b q r c = Comes wide b q (outcome r c)
 
+-- and of `heap::sweep`
+abbrev pub MaySweep : List ℕ → Swept → List ℕ → Type 0
+MaySweep b r c = Sweeps wide b (sweptOutcome r c)
+
 -- Any two results that a public contract allows are equal
 pub record OneResult : Type 0 where
   pub answers : (b : List ℕ) (q : Call) (r r′ : Answer) (c c′ : List ℕ) → MayAnswer b q r c → MayAnswer b q r′ c′ → (r ≡ r′) × (c ≡ c′)
+  pub sweeps : (b : List ℕ) (r r′ : Swept) (c c′ : List ℕ) → MaySweep b r c → MaySweep b r′ c′ → (r ≡ r′) × (c ≡ c′)
   pub verdicts : (b : List ℕ) (v v′ : Verdict) → Examined b v → Examined b v′ → v ≡ v′
   pub numbers : (b : List ℕ) (q : Call) (n n′ : ℕ) (c c′ : List ℕ) → Numbered (Comes wide b q) n c → Numbered (Comes wide b q) n′ c′ → (n ≡ n′) × (c ≡ c′)
   pub look-ups : (h : RefT (List ℕ)) (a : ℕ) (r r′ : RefT (List ℕ)) → Part h a r → Part h a r′ → (now r ≡ now r′) × (ptr r ≡ ptr r′)
@@ -56,6 +63,7 @@ AsksFor n (resizing a k) = ⊥
 AsksFor n (resizingBy staying a k) = k ≡ n
 AsksFor n (resizingBy moving a k) = k ≡ n
 AsksFor n (resizingBy keeping a k) = ⊥
+AsksFor n sweeping = ⊥
 
 -- Demands 1 and 2 of what the calls answer
 pub record AnswersPromised : Type 0 where
@@ -95,3 +103,15 @@ pub record AnswersPromised : Type 0 where
   -- the table's columns add up to the statistics of the same heap
   pub columns-add : (b : List ℕ) (r : Counted) (t : List (List ℕ)) → Counts wide b (toldCounted r) → TableTold b t
       → (column 0 t ≡ r .statistics .pages) × (column 1 t ≡ r .statistics .items)
+
+-- Demands 1 and 2 of what a sweep answers
+pub record SweepPromised : Type 0 where
+  -- a refusal leaves every byte as it was, and there are no others than 1, 2 and 3; a sound heap stays sound
+  pub refused-untouched : (b : List ℕ) (k : Refusal) (c : List ℕ) → MaySweep b (swept.Refused k) c → c ≡ b
+  pub answers-only : (b : List ℕ) (r : Swept) (c : List ℕ) → MaySweep b r c → sweptOutcome r c .refusal ∈ numbersOf sweeping
+  pub stays-sound : (b : List ℕ) (r : Swept) (c : List ℕ) → MaySweep b r c → Sound wide b → Sound wide c
+  -- what it keeps, and what it counts
+  pub keeps : (b : List ℕ) (n : ℕ) (c : List ℕ) (L L′ : Layout) → Lent wide b → Here wide b L → MaySweep b (swept.Pages n) c → Here wide c L′
+      → SweepKept wide b L (granted n c) L′ × SweepCounted wide L (granted n c) L′
+  -- a second one straight after answers 0 and changes no byte
+  pub stays : (b : List ℕ) (n : ℕ) (c : List ℕ) (r : Swept) (d : List ℕ) → MaySweep b (swept.Pages n) c → MaySweep c r d → (r ≡ swept.Pages 0) × (d ≡ c)

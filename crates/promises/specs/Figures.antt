@@ -9,7 +9,7 @@ use Rattle.model.specs.Picture.{Word, Shows}
 use Rattle.model.specs.Shape.{wide}
 use Rattle.model.specs.Refusals.{noRoom}
 use Rattle.model.specs.Calls.{staying, moving, Outcome, Opened, Initialises, Allocates}
-use Rattle.model.specs.Promises.{Call, initialising, allocating, freeing, resizing, resizingBy, Comes, Reply}
+use Rattle.model.specs.Promises.{Call, initialising, allocating, freeing, resizing, resizingBy, sweeping, Comes, Reply}
 
 -- an answer: a refusal and an address; a word: a position and its value
 abbrev pub says : ℕ → ℕ → Reply wide
@@ -84,6 +84,12 @@ table =
     ∷ unchanged 10000 (allocating 300 ∷ allocating 16 ∷ allocating 13 ∷ resizingBy staying 672 13 ∷ []) (says 0 0 ∷ says 0 320 ∷ says 0 648 ∷ says 0 672 ∷ says 0 672 ∷ []) (word 664 1671 ∷ [])
     -- N 4,800, allocate 30, resize 328 to 5: there is no room for another page, so the record is kept, and its header
     ∷ unchanged 4800 (allocating 30 ∷ resizing 328 5 ∷ []) (says 0 0 ∷ says 0 328 ∷ says 0 328 ∷ []) (word 320 3855 ∷ [])
+    -- (ii) H, allocate 300 and 16, free 648, sweep: 1, the page is in the free block at 632, size 9,368, and class 1 has no item
+    ∷ figure 10000 (allocating 300 ∷ allocating 16 ∷ freeing 648 ∷ sweeping ∷ []) (says 0 0 ∷ says 0 320 ∷ says 0 648 ∷ says 0 0 ∷ says 0 1 ∷ []) (word 24 632 ∷ word 632 9368 ∷ word 56 0 ∷ [])
+    -- H, allocate 16 three times, free 328 and 352: class 1 head 296, the last that was freed. Sweep: 0, and items rise: head 272, its header 4,741, the next one's 5,509
+    ∷ figure 10000 (allocating 16 ∷ allocating 16 ∷ allocating 16 ∷ freeing 328 ∷ freeing 352 ∷ []) (says 0 0 ∷ says 0 328 ∷ says 0 352 ∷ says 0 376 ∷ says 0 0 ∷ says 0 0 ∷ []) (word 56 296 ∷ [])
+    ∷ figure 10000 (allocating 16 ∷ allocating 16 ∷ allocating 16 ∷ freeing 328 ∷ freeing 352 ∷ sweeping ∷ []) (says 0 0 ∷ says 0 328 ∷ says 0 352 ∷ says 0 376 ∷ says 0 0 ∷ says 0 0 ∷ says 0 0 ∷ [])
+    (word 56 272 ∷ word 320 4741 ∷ word 344 5509 ∷ [])
     ∷ []
 
 -- outcomes that the calls' contracts allow, one after the other, from bytes b on; the bytes then, and before the last; and what was answered

@@ -12,6 +12,7 @@ use Rattle.model.specs.Sound.{Here}
 use Rattle.model.specs.Reading.{stepFrom}
 use Rattle.model.specs.inner.Walks.{lastFree, Gone}
 use Rattle.model.proofs.walks.Standing.{size-is, there}
+use Rattle.model.proofs.items.Aligned.{laid}
 use Rattle.model.proofs.walks.Passing.{stands, passed-allowed, gone-on}
 use Rattle.model.proofs.walks.Steps.{step-past}
 use Rattle.reading.specs.Stepping.{Toward, Towards, WalkAt, PageOf, BlockRead}
@@ -32,7 +33,7 @@ module _ {w : ℕ} {b : List ℕ} {at : ℕ} (g : WalkAt w b at) where
             rest = k .rest;
             passed = k .passed;
             same = ap (λ (l : List Block). stepFrom (shape w) at (start (shape w)) 0 l) (k .passed .blocks)
-                ∙ step-past (g .width) at (start (shape w)) 0 (k .pre) (k .rest) (passed-allowed (k .passed) (g .width) h) (omega (arith, k .passed .begins))
+                ∙ step-past (g .width) at (start (shape w)) 0 (k .pre) (k .rest) (passed-allowed (k .passed) (g .width) (laid (g .width) h)) (omega (arith, k .passed .begins))
                 ∙ ap (λ (y : ℕ). stepFrom (shape w) at y (lastFree (shape w) (start (shape w)) (k .pre) 0) (k .rest)) (k .passed .begins);
           }
 
@@ -47,8 +48,8 @@ module _ {w : ℕ} {b : List ℕ} {at : ℕ} (g : WalkAt w b at) where
         on : (L : Layout) → Here (shape w) b L → Gone {A = Unit {0}} w (λ (l : List Block). tt) L (at + sizeIn t) tt
         on L h =
             let k = g .gone L h in
-            let x = there (g .width) h (stands (k .passed)) l in
-            gone-on (λ (l : List Block). tt) (g .width) h k (x .block) (x .after) (x .rest) (sizeIn t) (size-is (g .width) h (stands (k .passed)) t e l (x .block) (x .after) (x .met)) tt refl
+            let x = there (g .width) (laid (g .width) h) (stands (k .passed)) l in
+            gone-on (λ (l : List Block). tt) (g .width) (laid (g .width) h) k (x .block) (x .after) (x .rest) (sizeIn t) (size-is (g .width) (laid (g .width) h) (stands (k .passed)) t e l (x .block) (x .after) (x .met)) tt refl
 
     pub read-free : kindIn t ≡ freeKind → (n m : ℕ) → n ≡ wordAt w b (nextAt (shape w) at) → m ≡ wordAt w b (previousAt (shape w) at s)
         → BlockRead w b at (record { position = record { 0 = at }; size = s; kind = Free (record { 0 = n }) (record { 0 = m }) })

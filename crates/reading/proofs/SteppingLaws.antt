@@ -7,6 +7,7 @@ use native.Mathlib.Omega.{arith}
 use lib.Dec.{eqb}
 use borrow.Author.Tests.{eqb-true, eqb-false}
 use lib.ListN.{length}
+use Rattle.words.proofs.YesNo.{yes-no}
 use Rattle.words.specs.Width.{Width}
 use Rattle.words.specs.Word.{wordAt}
 use Rattle.model.specs.Shape.{shape, leastFree, endOf, start}
@@ -18,6 +19,7 @@ use Rattle.model.specs.Reading.{Kind, aFree, aVariable, aPage, kindOf, ended, s
 use Rattle.model.proofs.blocks.Blocks.{last-append}
 use Rattle.model.specs.inner.Walks.{lastFree, Passed}
 use Rattle.model.proofs.walks.Standing.{sized, size-is, there, met, is-variable, is-free}
+use Rattle.model.proofs.items.Aligned.{laid}
 use Rattle.model.proofs.walks.Passing.{pass-start, stands, pass}
 use Rattle.model.proofs.walks.Steps.{step-here, step-over, step-below, walk-ends}
 use Rattle.reading.specs.Stepping.{Toward, Towards, WalkAt, StartTold}
@@ -35,10 +37,7 @@ pub met-none : {w : ℕ} → Width w → (b : List ℕ) (at : ℕ) → endOf (le
 met-none wd b at l L h = walk-ends wd (endOf (length b)) L at (h .valid) l
 
 pub start-none : {w : ℕ} → Width w → (b : List ℕ) (at : ℕ) → endOf (length b) ≤ at → StartTold w b at false
-start-none wd b at l = record { met = λ e. absurd (never e); not-met = λ e. met-none wd b at l }
-  where
-    never : false ≡ true → ⊥
-    never e = let z : _≡_ {A = ℕ} 0 1 = cc in omega arith
+start-none wd b at l = record { met = λ e. absurd (yes-no (sym e)); not-met = λ e. met-none wd b at l }
 
 module _ {w : ℕ} {b : List ℕ} {at p : ℕ} (g : Towards w b at p) where
   -- a walk that has gone past at without meeting it does not meet it
@@ -56,7 +55,7 @@ module _ {w : ℕ} {b : List ℕ} {at p : ℕ} (g : Towards w b at p) where
     pub toward-inside : (leastFree (shape w) ≤ sizeIn t) × (p + sizeIn t ≤ endOf (length b))
     toward-inside =
         let k = g .toward (g .sound .layout) (g .sound .here) in
-        let z = sized (g .width) (g .sound .here) (stands (k .passed)) t e l in
+        let z = sized (g .width) (laid (g .width) (g .sound .here)) (stands (k .passed)) t e l in
         (z .least, z .inside)
 
     pub toward-on : p < at → (s : ℕ) → s ≡ sizeIn t → Towards w b at (p + s)
@@ -67,8 +66,8 @@ module _ {w : ℕ} {b : List ℕ} {at p : ℕ} (g : Towards w b at p) where
         on L h =
             let k = g .toward L h in
             let s = stands (k .passed) in
-            let x = there (g .width) h s l in
-            let size : sizeOf (shape w) (x .block) ≡ sizeIn t = size-is (g .width) h s t e l (x .block) (x .after) (x .met) in
+            let x = there (g .width) (laid (g .width) h) s l in
+            let size : sizeOf (shape w) (x .block) ≡ sizeIn t = size-is (g .width) (laid (g .width) h) s t e l (x .block) (x .after) (x .met) in
             let prev : lastFree (shape w) (start (shape w)) (k .pre ++ (x .block ∷ [])) 0 ≡ ifFree (x .block) p (lastFree (shape w) (start (shape w)) (k .pre) 0) =
             last-append (shape w) (start (shape w)) (k .pre) (x .block ∷ []) 0 ∙ ap (λ (y : ℕ). ifFree (x .block) y (lastFree (shape w) (start (shape w)) (k .pre) 0)) (k .passed .begins) in
             record {
@@ -100,15 +99,15 @@ module _ {w : ℕ} {b : List ℕ} {at : ℕ} (g : Towards w b at at) (t : ℕ) (
     unfolding sizeOf kindOf own Shows
     met-free z n m en em =
         let k = stands (g .toward L h .passed) in
-        let r = is-free (g .width) h k t e l z in
-        let shown = met (g .width) h k (free (sizeIn t)) (r .0) (r .1) .shown in
+        let r = is-free (g .width) (laid (g .width) h) k t e l z in
+        let shown = met (g .width) (laid (g .width) h) k (free (sizeIn t)) (r .0) (r .1) .shown in
         let m-is : m ≡ wordAt w b (previousAt (shape w) at (sizeIn t)) = em ∙ ap (λ (y : ℕ). wordAt w b (previousAt (shape w) at y)) es in
         met-is (free (sizeIn t)) (r .0) (r .1) (aFree n m) (ap₂ (λ (x y : ℕ). aFree x y) (en ∙ shown .1 .0) (m-is ∙ shown .1 .1 .0)) refl
 
     pub met-variable : kindIn t ≡ variableKind → record { position = at; size = s; kind = aVariable; next = at + s } ≡ step (shape w) at L
     unfolding sizeOf useSize kindOf
     met-variable z =
-        let r = is-variable (g .width) h (stands (g .toward L h .passed)) t e l z in
+        let r = is-variable (g .width) (laid (g .width) h) (stands (g .toward L h .passed)) t e l z in
         met-is (used (variable (sizeIn t))) (r .0) (r .1) aVariable refl refl
 
     pub met-page : (kindIn t ≡ freeKind → ⊥) → (kindIn t ≡ variableKind → ⊥) → (f d : ℕ) → f ≡ wordAt w b (firstItemAt (shape w) at) → d ≡ classIn (shape w) f

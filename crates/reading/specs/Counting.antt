@@ -1,14 +1,12 @@
 -- What the walks that count ask and promise.
 use Prim.Native.Nat.{ℕ, zero, suc, _+_, _-_, _%_, _^_, _≤_, _<_}
 use mathlib.Core.Path.{_≡_}
-use mathlib.Core.Bool.{cond}
 use mathlib.Core.List.{List, [], _∷_}
 use lib.ListN.{length, getD}
-use lib.Dec.{eqb}
 use Rattle.words.specs.Width.{Width}
 use Rattle.words.specs.Word.{wordAt}
 use Rattle.model.specs.Shape.{shape, wide, itemSize, endOf}
-use Rattle.model.specs.Parts.{heldFlags, flagsIn, firstItemAt}
+use Rattle.model.specs.Parts.{usedIn, firstItemAt}
 use Rattle.model.specs.Picture.{Shows}
 use Rattle.model.specs.Layout.{Slot, page, Block, Layout, nextOf, useSize, slotWords}
 use Rattle.model.specs.Sound.{Here, Sound}
@@ -25,7 +23,7 @@ tableRows = wide .classes
 -- how many of n items of class c, with their headers from q on, say that they are in use
 unfoldable pub heldFrom : ℕ → List ℕ → ℕ → ℕ → ℕ → ℕ
 heldFrom w b c q zero = 0
-heldFrom w b c q (suc n) = cond (eqb (flagsIn (wordAt w b q)) heldFlags) 1 0 + heldFrom w b c (q + itemSize (shape w) c) n
+heldFrom w b c q (suc n) = usedIn (wordAt w b q) + heldFrom w b c (q + itemSize (shape w) c) n
 
 -- a page of class c with the items ss stands at p; its free items are listed in l
 pub record PageAt (w : ℕ) (b : List ℕ) (p c k : ℕ) (ss : List Slot) : Type 0 where

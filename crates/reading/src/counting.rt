@@ -1,6 +1,5 @@
 // Statistics and the table of classes: each by one walk over the blocks, and over a page's items.
 use model::FREE;
-use model::HELD;
 use model::MOST_CLASSES;
 use model::PAGE;
 use model::Position;
@@ -8,18 +7,16 @@ use model::VARIABLE;
 use model::class_in;
 use model::end_of;
 use model::first_item_at;
-use model::flags_in;
 use model::item_size;
 use model::items_in_page;
 use model::kind_in;
 use model::size_in;
 use model::start;
+use model::used_in;
 use words::word;
 ghost use mathlib.Core.Path.{_≡_};
-ghost use mathlib.Core.Bool.{cond};
 ghost use mathlib.Core.List.{List, []};
 ghost use Prim.Native.Nat.{ℕ, _+_, _*_, _≤_, _<_, max};
-ghost use lib.Dec.{eqb};
 ghost use lib.ListN.{length};
 ghost use Rattle.words.specs.Width.{Width};
 ghost use Rattle.words.specs.Word.{wordAt};
@@ -47,16 +44,6 @@ pub struct Page {
     pub idle: u64,
 }
 
-// 1 where two numbers are the same, else 0.
-fn one_if(x: usize, y: usize) -> u64
-    ensures { λ r. ⌜ r ≡ cond (eqb x y) 1 0 ⌝ }
-{
-    if x == y {
-        return 1;
-    }
-    0
-}
-
 // The larger of two numbers.
 fn larger(a: u64, b: u64) -> u64
     ensures { λ r. ⌜ r ≡ max a b ⌝ }
@@ -78,7 +65,7 @@ fn count_held(w: usize, h: &[u8], first: Position, c: usize, n: usize) -> u64
     let mut held = 0;
     while left != 0 {
         let x = word(w, h, q.0);
-        held += one_if(flags_in(x), HELD);
+        held += used_in(x) as u64;
         q = Position(q.0 + size);
         left -= 1;
     }

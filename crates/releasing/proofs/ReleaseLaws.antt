@@ -1,5 +1,5 @@
 -- A block is given back: what is read around it, and what is written for it.
-use Prim.Native.Nat.{ℕ, _+_, _-_, _<_, _≤_}
+use Prim.Native.Nat.{ℕ, _+_, _-_, _%_, _<_, _≤_}
 use mathlib.Core.Path.{_≡_, refl, sym, ap, subst, _∙_}
 use mathlib.Core.Bool.{Bool, true, false}
 use mathlib.Core.List.{List, [], _∷_, _++_, append-assoc, append-nil}
@@ -12,25 +12,27 @@ use Rattle.words.specs.Width.{Width}
 use Rattle.words.specs.Word.{wordAt, Bytes}
 use Rattle.model.specs.Shape.{shape, endOf, start, tags, leastFree}
 use Rattle.model.specs.Parts.{nextAt, previousAt}
-use Rattle.model.specs.Layout.{variable, Block, free, used, Layout, useSize, sizeOf, ends, firstFree, own, blockWords}
-use Rattle.model.specs.Sound.{Allowed, AllAllowed, Apart, Valid, Here}
+use Rattle.model.specs.Layout.{Use, variable, Block, free, used, Layout, useSize, sizeOf, ends, firstFree, own, blockWords}
+use Rattle.model.specs.Sound.{Allowed, AllAllowed, Apart, Here, Sound}
+use Rattle.model.specs.inner.Laid.{Tiled, Laid}
 use Rattle.model.specs.Rules.{Spot, block, released, freed}
 use Rattle.model.specs.Calls.{drawn}
 use Rattle.model.proofs.Good.{shape-good}
-use Rattle.model.proofs.blocks.Blocks.{ends-append, last-append, allowed-left, allowed-right}
+use Rattle.model.proofs.blocks.Blocks.{ends-append, last-append}
 use Rattle.model.specs.inner.Walks.{flag, lastFree, endsFree}
 use Rattle.model.proofs.blocks.Replace.{three}
 use Rattle.model.proofs.blocks.Valid.{apart-right}
-use Rattle.model.proofs.blocks.Middle.{Middle, middle-at, FreeAt, start-le, middle-le, end-le, link-in, prev-in, next-in, back-in, all-post, free-read, link-shown, rewritten}
+use Rattle.model.proofs.blocks.Middle.{Middle, middle-in, FreeAt, start-le, middle-le, end-le, link-in, prev-in, next-in, back-in, all-old, all-post, free-read, link-shown, rewritten}
 use Rattle.model.specs.inner.Links.{linkOf}
 use Rattle.model.proofs.pictures.Drawn.{drawn-here}
+use Rattle.model.proofs.items.Aligned.{laid}
 use Rattle.model.proofs.walks.Standing.{sizes}
 use Rattle.model.proofs.walks.Finding.{block-found}
-use Rattle.model.proofs.blocks.Releasing.{Side, nobody, neighbour, left-side, right-side, right-not, old, sides-blocks, left-clear, released-is, ends-old, released-valid}
-use Rattle.find.specs.declared.VariableBlock.{VariableBlock}
+use Rattle.model.proofs.blocks.Releasing.{Side, nobody, neighbour, left-side, right-side, right-not, old, sides-blocks, left-clear, released-is, ends-old, released-tiled, freed-block-valid}
+use Rattle.find.specs.declared.UsedBlock.{UsedBlock}
 use Rattle.find.specs.Find.{BlockFound}
 use Rattle.links.specs.Links.{LinkRoom, freeWords, linkedBytes}
-use Rattle.releasing.specs.Release.{leftAt, leftFree, rightAt, rightFree, RightRoom, BlockLive, Released}
+use Rattle.releasing.specs.Release.{leftAt, leftFree, rightAt, rightFree, RightRoom, InUse, UsedIn, GivenBack, BlockLive}
 use Rattle.model.proofs.Sizes.{most-bound}
 
 -- the edges, by cases
@@ -63,6 +65,7 @@ pub record Joining (w : ℕ) (b : List ℕ) (L : Layout) (t : Spot) (from to bef
   pub clear-left : endsFree 0 pre ≡ 0
   pub clear-right : Apart 1 post
   pub begins : ends (shape w) (start (shape w)) pre ≡ from
+  pub reach : from + l ≡ ends (shape w) (start (shape w)) (t .pre)
   pub extent : from + (l + (t .size + r)) ≡ to
   pub before-is : lastFree (shape w) (start (shape w)) pre 0 ≡ before
   pub behind-is : firstFree (shape w) to post 0 ≡ behind
@@ -71,34 +74,36 @@ positive : {w : ℕ} → Width w → (x : Block) → Allowed (shape w) x → 0 <
 positive wd x a = omega (arith, sizes wd x a .0)
 
 -- what code knows of the block x that was found
-module _ {w : ℕ} (wd : Width w) (b : List ℕ) (L : Layout) (a : ℕ) (t : Spot) (x : VariableBlock) (h : Here (shape w) b L) (f : BlockFound w L a t x) where
+module _ {w : ℕ} (wd : Width w) (b : List ℕ) (L : Layout) (t : Spot) (u : Use) (x : UsedBlock) (h : Laid w b L) (f : InUse w L t u x) where
   pub at : ℕ
   at = x .at .0
 
   pub stop : ℕ
   stop = x .at .0 + x .size
 
-  pub blocks-are : L .blocks ≡ t .pre ++ ((used (variable (t .size)) ∷ []) ++ t .post)
-  blocks-are = block-found (shape w) (shape-good wd) a (start (shape w)) (L .blocks) t (f .found) .blocks
-
   -- the block itself in the middle
-  pub self : Middle (shape w) b (endOf (length b)) (L .lists) (t .pre) (used (variable (t .size)) ∷ []) (t .post) (x .at .0) (x .at .0 + x .size) (x .prev .0) (firstFree (shape w) (x .at .0 + x .size) (t .post) 0)
-  unfolding ends sizeOf useSize
+  pub self : Middle (shape w) b (endOf (length b)) (L .lists) (t .pre) (used u ∷ []) (t .post) (x .at .0) (x .at .0 + x .size) (x .prev .0) (firstFree (shape w) (x .at .0 + x .size) (t .post) 0)
+  unfolding ends sizeOf
   self =
-      middle-at (shape w) b L (t .pre) (used (variable (t .size)) ∷ []) (t .post) (x .at .0) (x .at .0 + x .size) (x .prev .0) (firstFree (shape w) (x .at .0 + x .size) (t .post) 0) h blocks-are
-      (record { begins = f .at; finishes = ap (λ (y : ℕ). x .at .0 + y) (f .size); before = f .before; behind = refl })
+      middle-in (shape w) b L (t .pre) (used u ∷ []) (t .post) (x .at .0) (x .at .0 + x .size) (x .prev .0) (firstFree (shape w) (x .at .0 + x .size) (t .post) 0) (h .tiled) (h .shown) (f .blocks)
+      (record { begins = f .at; finishes = ap (λ (y : ℕ). x .at .0 + y) (f .fits ∙ f .size); before = f .before; behind = refl })
+
+  -- its size is one of a block
+  pub use-sizes : (leastFree (shape w) ≤ t .size) × (t .size % 8 ≡ 0)
+  unfolding AllAllowed sizeOf
+  use-sizes = rw (← f .fits) (sizes wd (used u) (all-old (shape w) self .0))
 
   -- the link to it names the next free block
   pub next-free : (n : ℕ) → n ≡ wordAt w b (linkOf (shape w) (x .prev .0)) → n ≡ firstFree (shape w) (x .at .0 + x .size) (t .post) 0
   unfolding firstFree
   next-free n e = e ∙ link-shown (shape w) self
 
-  whole-apart : Apart 0 (t .pre ++ (used (variable (t .size)) ∷ t .post))
-  whole-apart = subst (λ (l : List Block). Apart 0 l) blocks-are (h .valid .apart)
+  whole-apart : Apart 0 (t .pre ++ (used u ∷ t .post))
+  whole-apart = subst (λ (l : List Block). Apart 0 l) (f .blocks) (h .tiled .apart)
 
   post-apart : Apart 0 (t .post)
   unfolding Apart
-  post-apart = apart-right 0 (t .pre) (used (variable (t .size)) ∷ t .post) whole-apart .1
+  post-apart = apart-right 0 (t .pre) (used u ∷ t .post) whole-apart .1
 
   -- the left neighbour
   record LeftOf (from before : ℕ) : Type 0 where
@@ -138,9 +143,9 @@ module _ {w : ℕ} (wd : Width w) (b : List ℕ) (L : Layout) (a : ℕ) (t : Spo
           let eb′ : before ≡ wordAt w b (previousAt (shape w) (x .prev .0) (x .at .0 - x .prev .0)) = eb ∙ rw z refl in
           let p1 : ends (shape w) (start (shape w)) pre + s ≡ x .at .0 = unfold ends sizeOf in sym (ends-append (shape w) (start (shape w)) pre (free s ∷ [])) ∙ ap (λ (l : List Block). ends (shape w) (start (shape w)) l) (sym e) ∙ f .at in
           let p2 : ends (shape w) (start (shape w)) pre ≡ x .prev .0 = unfold lastFree in sym (last-append (shape w) (start (shape w)) pre (free s ∷ []) 0) ∙ ap (λ (l : List Block). lastFree (shape w) (start (shape w)) l 0) (sym e) ∙ f .before in
-          let bl : L .blocks ≡ pre ++ ((free s ∷ []) ++ (used (variable (t .size)) ∷ t .post)) =
-          blocks-are ∙ ap (λ (l : List Block). l ++ (used (variable (t .size)) ∷ t .post)) e ∙ append-assoc pre (free s ∷ []) (used (variable (t .size)) ∷ t .post) in
-          let m = middle-at (shape w) b L pre (free s ∷ []) (used (variable (t .size)) ∷ t .post) (ends (shape w) (start (shape w)) pre) (ends (shape w) (start (shape w)) pre + s) (lastFree (shape w) (start (shape w)) pre 0) (firstFree (shape w) (ends (shape w) (start (shape w)) pre + s) (used (variable (t .size)) ∷ t .post) 0) h bl
+          let bl : L .blocks ≡ pre ++ ((free s ∷ []) ++ (used u ∷ t .post)) =
+          f .blocks ∙ ap (λ (l : List Block). l ++ (used u ∷ t .post)) e ∙ append-assoc pre (free s ∷ []) (used u ∷ t .post) in
+          let m = middle-in (shape w) b L pre (free s ∷ []) (used u ∷ t .post) (ends (shape w) (start (shape w)) pre) (ends (shape w) (start (shape w)) pre + s) (lastFree (shape w) (start (shape w)) pre 0) (firstFree (shape w) (ends (shape w) (start (shape w)) pre + s) (used u ∷ t .post) 0) (h .tiled) (h .shown) bl
           (record { begins = refl; finishes = unfold ends sizeOf in refl; before = refl; behind = refl }) in
           let v = free-read (shape w) m in
           let there : previousAt (shape w) (ends (shape w) (start (shape w)) pre) s ≡ previousAt (shape w) (x .prev .0) (x .at .0 - x .prev .0) = omega (arith, p1, p2) in
@@ -198,12 +203,12 @@ module _ {w : ℕ} (wd : Width w) (b : List ℕ) (L : Layout) (a : ℕ) (t : Spo
               let k = eq-eqb next (x .at .0 + x .size) n in
               let et′ : to ≡ x .at .0 + x .size + wordAt w b (x .at .0 + x .size) = et ∙ rw k refl in
               let eb′ : behind ≡ wordAt w b (nextAt (shape w) (x .at .0 + x .size)) = eb ∙ rw k refl in
-              let bl : L .blocks ≡ (t .pre ++ (used (variable (t .size)) ∷ [])) ++ ((free s ∷ []) ++ post) =
-              blocks-are ∙ ap (λ (l : List Block). t .pre ++ (used (variable (t .size)) ∷ l)) (v .2) ∙ sym (append-assoc (t .pre) (used (variable (t .size)) ∷ []) (free s ∷ post)) in
-              let be : ends (shape w) (start (shape w)) (t .pre ++ (used (variable (t .size)) ∷ [])) ≡ x .at .0 + x .size =
-              ends-append (shape w) (start (shape w)) (t .pre) (used (variable (t .size)) ∷ []) ∙ ap (λ (y : ℕ). ends (shape w) y (used (variable (t .size)) ∷ [])) (f .at) ∙ self .places .finishes in
-              let m = middle-at (shape w) b L (t .pre ++ (used (variable (t .size)) ∷ [])) (free s ∷ []) post (x .at .0 + x .size) (x .at .0 + x .size + s)
-              (lastFree (shape w) (start (shape w)) (t .pre ++ (used (variable (t .size)) ∷ [])) 0) (firstFree (shape w) (x .at .0 + x .size + s) post 0) h bl
+              let bl : L .blocks ≡ (t .pre ++ (used u ∷ [])) ++ ((free s ∷ []) ++ post) =
+              f .blocks ∙ ap (λ (l : List Block). t .pre ++ (used u ∷ l)) (v .2) ∙ sym (append-assoc (t .pre) (used u ∷ []) (free s ∷ post)) in
+              let be : ends (shape w) (start (shape w)) (t .pre ++ (used u ∷ [])) ≡ x .at .0 + x .size =
+              ends-append (shape w) (start (shape w)) (t .pre) (used u ∷ []) ∙ ap (λ (y : ℕ). ends (shape w) y (used u ∷ [])) (f .at) ∙ self .places .finishes in
+              let m = middle-in (shape w) b L (t .pre ++ (used u ∷ [])) (free s ∷ []) post (x .at .0 + x .size) (x .at .0 + x .size + s)
+              (lastFree (shape w) (start (shape w)) (t .pre ++ (used u ∷ [])) 0) (firstFree (shape w) (x .at .0 + x .size + s) post 0) (h .tiled) (h .shown) bl
               (record { begins = be; finishes = unfold ends sizeOf in refl; before = refl; behind = refl }) in
               let z = free-read (shape w) m in
               let ap1 : Apart 0 (free s ∷ post) = rw (v .2) at post-apart in
@@ -220,47 +225,48 @@ module _ {w : ℕ} (wd : Width w) (b : List ℕ) (L : Layout) (a : ℕ) (t : Spo
               }
 
   -- all three together
-  joining : (next from to before behind : ℕ) → next ≡ wordAt w b (linkOf (shape w) (x .prev .0))
+  pub joining : (next from to before behind : ℕ) → next ≡ wordAt w b (linkOf (shape w) (x .prev .0))
       → from ≡ leftAt (x .at .0) (x .prev .0) (x .touching) → before ≡ leftFree w b (x .at .0) (x .prev .0) (x .touching) → to ≡ rightAt w b (x .at .0 + x .size) next → behind ≡ rightFree w b (x .at .0 + x .size) next
       → Joining w b L t from to before behind
   joining next from to before behind en ef eb et eh =
-      let u = left-of (x .touching) refl from before ef eb in
-      let v = right-of next (next-free next en) to behind et eh in
-      let bl : L .blocks ≡ u .pre ++ (old (shape w) (endOf (length b)) (L .lists) t (u .pre) (u .lefts) (v .rights) (v .post) (u .l) (v .r) (u .side) (v .side) (u .pre-is) (v .post-is) ++ v .post) =
-      blocks-are ∙ sides-blocks (shape w) (endOf (length b)) (L .lists) t (u .pre) (u .lefts) (v .rights) (v .post) (u .l) (v .r) (u .side) (v .side) (u .pre-is) (v .post-is) in
+      let lf = left-of (x .touching) refl from before ef eb in
+      let rt = right-of next (next-free next en) to behind et eh in
+      let bl : L .blocks ≡ lf .pre ++ (old (shape w) (endOf (length b)) (L .lists) t u (f .fits) (lf .pre) (lf .lefts) (rt .rights) (rt .post) (lf .l) (rt .r) (lf .side) (rt .side) (lf .pre-is) (rt .post-is) ++ rt .post) =
+      f .blocks ∙ sides-blocks (shape w) (endOf (length b)) (L .lists) t u (f .fits) (lf .pre) (lf .lefts) (rt .rights) (rt .post) (lf .l) (rt .r) (lf .side) (rt .side) (lf .pre-is) (rt .post-is) in
       record {
-        pre = u .pre;
-        lefts = u .lefts;
-        rights = v .rights;
-        post = v .post;
-        l = u .l;
-        r = v .r;
-        left = u .side;
-        right = v .side;
-        pre-is = u .pre-is;
-        post-is = v .post-is;
-        clear-left = left-clear (shape w) (endOf (length b)) (L .lists) t (u .pre) (u .lefts) (v .rights) (v .post) (u .l) (v .r) (u .side) (v .side) (u .pre-is) (v .post-is) (subst (λ (l : List Block). Apart 0 l) bl (h .valid .apart)) (u .known);
-        clear-right = v .clear;
-        begins = u .begins;
-        extent = omega (arith, u .reach, v .extent, f .size);
-        before-is = u .before-is;
-        behind-is = v .behind-is;
+        pre = lf .pre;
+        lefts = lf .lefts;
+        rights = rt .rights;
+        post = rt .post;
+        l = lf .l;
+        r = rt .r;
+        left = lf .side;
+        right = rt .side;
+        pre-is = lf .pre-is;
+        post-is = rt .post-is;
+        clear-left = left-clear (shape w) (endOf (length b)) (L .lists) t u (f .fits) (lf .pre) (lf .lefts) (rt .rights) (rt .post) (lf .l) (rt .r) (lf .side) (rt .side) (lf .pre-is) (rt .post-is) (subst (λ (l : List Block). Apart 0 l) bl (h .tiled .apart)) (lf .known);
+        clear-right = rt .clear;
+        begins = lf .begins;
+        reach = omega (arith, lf .reach, f .at);
+        extent = omega (arith, lf .reach, rt .extent, f .size);
+        before-is = lf .before-is;
+        behind-is = rt .behind-is;
       }
 
 -- what is written for the joined block
-module _ {w : ℕ} (wd : Width w) (b : List ℕ) (L : Layout) (t : Spot) (from to before behind : ℕ) (h : Here (shape w) b L) (bl : L .blocks ≡ t .pre ++ ((used (variable (t .size)) ∷ []) ++ t .post)) (j : Joining w b L t from to before behind) where
+module _ {w : ℕ} (wd : Width w) (b : List ℕ) (L : Layout) (t : Spot) (u : Use) (x : UsedBlock) (from to before behind : ℕ) (h : Laid w b L) (f : InUse w L t u x) (j : Joining w b L t from to before behind) where
   abbrev three-blocks : List Block
-  three-blocks = j .lefts ++ (used (variable (t .size)) ∷ j .rights)
+  three-blocks = j .lefts ++ (used u ∷ j .rights)
 
   blocks-joined : L .blocks ≡ j .pre ++ (three-blocks ++ j .post)
-  blocks-joined = bl ∙ sides-blocks (shape w) (endOf (length b)) (L .lists) t (j .pre) (j .lefts) (j .rights) (j .post) (j .l) (j .r) (j .left) (j .right) (j .pre-is) (j .post-is)
+  blocks-joined = f .blocks ∙ sides-blocks (shape w) (endOf (length b)) (L .lists) t u (f .fits) (j .pre) (j .lefts) (j .rights) (j .post) (j .l) (j .r) (j .left) (j .right) (j .pre-is) (j .post-is)
 
   pub middle : Middle (shape w) b (endOf (length b)) (L .lists) (j .pre) three-blocks (j .post) from to before behind
   middle =
-      middle-at (shape w) b L (j .pre) three-blocks (j .post) from to before behind h blocks-joined
+      middle-in (shape w) b L (j .pre) three-blocks (j .post) from to before behind (h .tiled) (h .shown) blocks-joined
       (record {
         begins = j .begins;
-        finishes = ends-old (shape w) (endOf (length b)) (L .lists) t (j .pre) (j .lefts) (j .rights) (j .post) (j .l) (j .r) (j .left) (j .right) (j .pre-is) (j .post-is) from ∙ j .extent;
+        finishes = ends-old (shape w) (endOf (length b)) (L .lists) t u (f .fits) (j .pre) (j .lefts) (j .rights) (j .post) (j .l) (j .r) (j .left) (j .right) (j .pre-is) (j .post-is) from ∙ j .extent;
         before = j .before-is;
         behind = j .behind-is;
       })
@@ -268,47 +274,42 @@ module _ {w : ℕ} (wd : Width w) (b : List ℕ) (L : Layout) (t : Spot) (from t
   abbrev size : ℕ
   size = j .l + (t .size + j .r)
 
-  valid : Valid (shape w) (endOf (length b)) (three (shape w) (L .lists) (j .pre) (free size ∷ []) (j .post))
-  valid =
-      released-valid (shape w) (endOf (length b)) (L .lists) t (j .pre) (j .lefts) (j .rights) (j .post) (j .l) (j .r) (j .left) (j .right) (j .pre-is) (j .post-is) (omega arith)
-      (subst (λ (l : List Block). Valid (shape w) (endOf (length b)) (record { blocks = l; lists = L .lists })) blocks-joined (h .valid)) (j .clear-left) (j .clear-right)
+  tiled : Tiled (shape w) (endOf (length b)) (three (shape w) (L .lists) (j .pre) (free size ∷ []) (j .post))
+  tiled =
+      let z = use-sizes wd b L t u x h f in
+      released-tiled (shape w) (endOf (length b)) (L .lists) t u (f .fits) (j .pre) (j .lefts) (j .rights) (j .post) (j .l) (j .r) (j .left) (j .right) (j .pre-is) (j .post-is) (z .0) (z .1)
+      (subst (λ (l : List Block). Tiled (shape w) (endOf (length b)) (record { blocks = l; lists = L .lists })) blocks-joined (h .tiled)) (j .clear-left) (j .clear-right)
 
-  released-blocks : released t ≡ j .pre ++ (free size ∷ j .post)
+  pub released-blocks : released t ≡ j .pre ++ (free size ∷ j .post)
   released-blocks =
-      released-is (shape w) (endOf (length b)) (L .lists) t (j .pre) (j .lefts) (j .rights) (j .post) (j .l) (j .r) (j .left) (j .right) (j .pre-is) (j .post-is)
-      (subst (λ (l : List Block). Apart 0 l) blocks-joined (h .valid .apart)) (j .clear-left) (j .clear-right)
-
-  pub freed-valid : Valid (shape w) (endOf (length b)) (freed (shape w) (block t) L)
-  unfolding freed
-  freed-valid = rw released-blocks valid
+      released-is (shape w) (endOf (length b)) (L .lists) t u (f .fits) (j .pre) (j .lefts) (j .rights) (j .post) (j .l) (j .r) (j .left) (j .right) (j .pre-is) (j .post-is)
+      (subst (λ (l : List Block). Apart 0 l) blocks-joined (h .tiled .apart)) (j .clear-left) (j .clear-right)
 
   -- the bytes are those of the heap with the block given back
-  pub freed-drawn : Bytes b → length b ≤ shape w .most → linkedBytes w b from to before behind ≡ drawn (shape w) (freed (shape w) (block t) L) b
-  unfolding freed linkedBytes freeWords blockWords own firstFree lastFree
-  freed-drawn bytes short =
+  pub released-drawn : Bytes b → length b ≤ shape w .most → linkedBytes w b from to before behind ≡ drawn (shape w) (record { blocks = released t; lists = L .lists }) b
+  unfolding linkedBytes freeWords blockWords own firstFree lastFree
+  released-drawn bytes short =
       let n : to - from ≡ j .l + (t .size + j .r) = omega (arith, j .extent) in
       let e : ends (shape w) from (free (j .l + (t .size + j .r)) ∷ []) ≡ to = unfold ends sizeOf in j .extent in
-      rw (released-blocks, n) (rewritten (shape w) middle (free (j .l + (t .size + j .r)) ∷ []) e (shape-good wd) bytes (omega arith) valid)
+      rw (released-blocks, n) (rewritten (shape w) middle (free (j .l + (t .size + j .r)) ∷ []) e (shape-good wd) bytes (omega arith) tiled)
 
   pub link-room : length b ≤ shape w .most → LinkRoom w b from to before behind
   link-room short =
+      let least : leastFree (shape w) ≤ j .l + (t .size + j .r) = omega (arith, use-sizes wd b L t u x h f .0) in
       record {
         width = wd;
-        least = omega (arith, j .extent, valid-size);
+        least = omega (arith, j .extent);
         inside = omega (arith, end-le (shape w) middle);
         linked = omega (arith, link-in (shape w) middle, middle-le (shape w) middle, end-le (shape w) middle);
         before-fits = omega (arith, most-bound wd, prev-in (shape w) middle, middle-le (shape w) middle, end-le (shape w) middle);
         back = record { width = wd; block = λ z. ⊎-elim (λ e. absurd (z e)) (λ e. (omega (arith, e .least), omega (arith, e .high))) (next-in (shape w) middle) };
-        behind-inside = omega (arith, back-in (shape w) middle (omega (arith, j .extent, valid-size)));
+        behind-inside = omega (arith, back-in (shape w) middle (omega (arith, j .extent)));
       }
-    where
-      valid-size : leastFree (shape w) ≤ j .l + (t .size + j .r)
-      valid-size = unfold AllAllowed Allowed in allowed-left (shape w) (free size ∷ []) (j .post) (allowed-right (shape w) (j .pre) ((free size ∷ []) ++ j .post) (valid .allowed)) .0 .0
 
 -- what code reads and writes, in its own numbers
-module _ {w : ℕ} (b : List ℕ) (x : VariableBlock) (k : BlockLive w b x) where
-  pub live : Middle (shape w) b (endOf (length b)) (k .layout .lists) (k .spot .pre) (used (variable (k .spot .size)) ∷ []) (k .spot .post) (x .at .0) (x .at .0 + x .size) (x .prev .0) (firstFree (shape w) (x .at .0 + x .size) (k .spot .post) 0)
-  live = self (k .width) b (k .layout) (k .address) (k .spot) x (k .here) (k .found)
+module _ {w : ℕ} (b : List ℕ) (x : UsedBlock) (k : UsedIn w b x) where
+  stands : Middle (shape w) b (endOf (length b)) (k .layout .lists) (k .spot .pre) (used (k .block) ∷ []) (k .spot .post) (x .at .0) (x .at .0 + x .size) (x .prev .0) (firstFree (shape w) (x .at .0 + x .size) (k .spot .post) 0)
+  stands = self (k .width) b (k .layout) (k .spot) (k .block) x (k .laid) (k .in-use)
 
   pub record Around : Type 0 where
     pub low : start (shape w) ≤ x .at .0
@@ -319,55 +320,83 @@ module _ {w : ℕ} (b : List ℕ) (x : VariableBlock) (k : BlockLive w b x) wher
   pub around : Around
   around =
       record {
-        low = start-le (shape w) live;
-        high = omega (arith, end-le (shape w) live);
-        prev-low = prev-in (shape w) live;
-        link-low = link-in (shape w) live;
+        low = start-le (shape w) stands;
+        high = omega (arith, end-le (shape w) stands);
+        prev-low = prev-in (shape w) stands;
+        link-low = link-in (shape w) stands;
       }
 
   pub right-room : (next : ℕ) → next ≡ wordAt w b (linkOf (shape w) (x .prev .0)) → RightRoom w b (x .at .0 + x .size) next
   right-room next e =
       record {
         width = k .width;
-        block = λ n. ⊎-elim (λ z. absurd (omega (arith, start-le (shape w) live, next-free (k .width) b (k .layout) (k .address) (k .spot) x (k .here) (k .found) next e)))
-            (λ z. inside n z) (next-in (shape w) live);
+        block = λ n. ⊎-elim (λ z. absurd (omega (arith, start-le (shape w) stands, is-next)))
+            (λ z. inside n z) (next-in (shape w) stands);
       }
     where
+      is-next : next ≡ firstFree (shape w) (x .at .0 + x .size) (k .spot .post) 0
+      is-next = next-free (k .width) b (k .layout) (k .spot) (k .block) x (k .laid) (k .in-use) next e
+
       inside : next ≡ x .at .0 + x .size → FreeAt (shape w) b (x .at .0 + x .size) (endOf (length b)) (firstFree (shape w) (x .at .0 + x .size) (k .spot .post) 0) → (tags (shape w) ≤ wordAt w b (x .at .0 + x .size)) × (x .at .0 + x .size + wordAt w b (x .at .0 + x .size) ≤ length b)
       inside n z =
-          let q : firstFree (shape w) (x .at .0 + x .size) (k .spot .post) 0 ≡ x .at .0 + x .size = sym (next-free (k .width) b (k .layout) (k .address) (k .spot) x (k .here) (k .found) next e) ∙ n in
+          let q : firstFree (shape w) (x .at .0 + x .size) (k .spot .post) 0 ≡ x .at .0 + x .size = sym is-next ∙ n in
           let y : FreeAt (shape w) b (x .at .0 + x .size) (endOf (length b)) (x .at .0 + x .size) = rw q at z in
           (omega (arith, y .least), omega (arith, y .high))
 
   module _ (next from to before behind : ℕ) (en : next ≡ wordAt w b (linkOf (shape w) (x .prev .0))) (ef : from ≡ leftAt (x .at .0) (x .prev .0) (x .touching)) (eb : before ≡ leftFree w b (x .at .0) (x .prev .0) (x .touching)) (et : to ≡ rightAt w b (x .at .0 + x .size) next)
       (eh : behind ≡ rightFree w b (x .at .0 + x .size) next) where
-    join : (L : Layout) (a : ℕ) (t : Spot) → Here (shape w) b L → BlockFound w L a t x → Joining w b L t from to before behind
-    join L a t h f =
-        joining (k .width) b L a t x h f next from to before behind en ef eb et eh
+    join : (L : Layout) (t : Spot) (u : Use) → Laid w b L → InUse w L t u x → Joining w b L t from to before behind
+    join L t u h f = joining (k .width) b L t u x h f next from to before behind en ef eb et eh
 
     pub release-room : LinkRoom w b from to before behind
     release-room =
-        link-room (k .width) b (k .layout) (k .spot) from to before behind (k .here) (blocks-are (k .width) b (k .layout) (k .address) (k .spot) x (k .here) (k .found)) (join (k .layout) (k .address) (k .spot) (k .here) (k .found)) (k .short)
+        link-room (k .width) b (k .layout) (k .spot) (k .block) x from to before behind (k .laid) (k .in-use) (join (k .layout) (k .spot) (k .block) (k .laid) (k .in-use)) (k .short)
 
-    pub release-law : Bytes b → (c : List ℕ) → c ≡ linkedBytes w b from to before behind → Released w b x c
-    release-law bytes c e =
-        record {
-          draws = λ L a t h f. e ∙ freed-drawn (k .width) b L t from to before behind h (blocks-are (k .width) b L a t x h f) (join L a t h f) bytes (k .short);
-          sound = record {
-            layout = freed (shape w) (block (k .spot)) (k .layout);
-            here = subst (λ (y : List ℕ). Here (shape w) y (freed (shape w) (block (k .spot)) (k .layout))) (sym (e ∙ drawn-is)) here-after;
-          };
-        }
-      where
-        j : Joining w b (k .layout) (k .spot) from to before behind
-        j = join (k .layout) (k .address) (k .spot) (k .here) (k .found)
+    -- THE LAW, of any block in use
+    pub release-law : Bytes b → (c : List ℕ) → c ≡ linkedBytes w b from to before behind → GivenBack w b x c
+    release-law bytes c e = record { draws = λ L t u h f. e ∙ released-drawn (k .width) b L t u x from to before behind h f (join L t u h f) bytes (k .short) }
 
-        bl : k .layout .blocks ≡ k .spot .pre ++ ((used (variable (k .spot .size)) ∷ []) ++ k .spot .post)
-        bl = blocks-are (k .width) b (k .layout) (k .address) (k .spot) x (k .here) (k .found)
+-- a variable block that was found is one in use
+module _ {w : ℕ} (wd : Width w) (L : Layout) (a : ℕ) (t : Spot) (x : UsedBlock) (f : BlockFound w L a t x) where
+  pub found-in-use : InUse w L t (variable (t .size)) x
+  unfolding useSize
+  found-in-use =
+      record {
+        blocks = block-found (shape w) (shape-good wd) a (start (shape w)) (L .blocks) t (f .found) .blocks;
+        fits = refl;
+        at = f .at;
+        size = f .size;
+        before = f .before;
+        touches = f .touches;
+      }
 
-        drawn-is : linkedBytes w b from to before behind ≡ drawn (shape w) (freed (shape w) (block (k .spot)) (k .layout)) b
-        drawn-is = freed-drawn (k .width) b (k .layout) (k .spot) from to before behind (k .here) bl j bytes (k .short)
+-- so where it is given back the rule's layout is drawn
+pub freed-draws : {w : ℕ} → Width w → {b : List ℕ} {x : UsedBlock} {c : List ℕ} → GivenBack w b x c → (L : Layout) (a : ℕ) (t : Spot) → Here (shape w) b L → BlockFound w L a t x
+    → c ≡ drawn (shape w) (freed (shape w) (block t) L) b
+unfolding freed
+freed-draws wd {x = x} g L a t h f = g .draws L t (variable (t .size)) (laid wd h) (found-in-use wd L a t x f)
 
-        here-after : Here (shape w) (drawn (shape w) (freed (shape w) (block (k .spot)) (k .layout)) b) (freed (shape w) (block (k .spot)) (k .layout))
-        here-after =
-            drawn-here (shape w) (shape-good (k .width)) b (freed (shape w) (block (k .spot)) (k .layout)) (k .here .magic) (freed-valid (k .width) b (k .layout) (k .spot) from to before behind (k .here) bl j) (k .short)
+module _ {w : ℕ} {b : List ℕ} {x : UsedBlock} (k : BlockLive w b x) where
+  pub live-used : UsedIn w b x
+  live-used =
+      record {
+        width = k .width;
+        layout = k .layout;
+        laid = laid (k .width) (k .here);
+        short = k .short;
+        spot = k .spot;
+        block = variable (k .spot .size);
+        in-use = found-in-use (k .width) (k .layout) (k .address) (k .spot) x (k .found);
+      }
+
+  -- and a sound heap stays sound
+  pub freed-sound : {c : List ℕ} → GivenBack w b x c → Sound (shape w) c
+  unfolding freed
+  freed-sound g =
+      let is = freed-draws (k .width) g (k .layout) (k .address) (k .spot) (k .here) (k .found) in
+      let v = freed-block-valid (shape w) (shape-good (k .width) .larger) (endOf (length b)) (k .layout) (k .spot) (k .here .valid) (found-in-use (k .width) (k .layout) (k .address) (k .spot) x (k .found) .blocks) in
+      record {
+        layout = freed (shape w) (block (k .spot)) (k .layout);
+        here = subst (λ (y : List ℕ). Here (shape w) y (freed (shape w) (block (k .spot)) (k .layout))) (sym is)
+            (drawn-here (shape w) (shape-good (k .width)) b (freed (shape w) (block (k .spot)) (k .layout)) (k .here .magic) v (k .short));
+      }

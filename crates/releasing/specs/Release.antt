@@ -2,18 +2,20 @@
 use Prim.Native.Nat.{ℕ, _+_, _-_, _≤_}
 use mathlib.Core.Path.{_≡_}
 use mathlib.Core.Bool.{Bool, cond}
-use mathlib.Core.List.{List}
+use mathlib.Core.List.{List, [], _∷_, _++_}
 use lib.ListN.{length}
 use lib.Dec.{eqb}
 use Rattle.words.specs.Width.{Width}
 use Rattle.words.specs.Word.{wordAt}
-use Rattle.model.specs.Shape.{shape, tags}
+use Rattle.model.specs.Shape.{shape, start, tags}
 use Rattle.model.specs.Parts.{nextAt, previousAt}
-use Rattle.model.specs.Layout.{Layout}
-use Rattle.model.specs.Sound.{Here, Sound}
-use Rattle.model.specs.Rules.{Spot, block, freed}
+use Rattle.model.specs.Layout.{Use, used, Layout, useSize, ends}
+use Rattle.model.specs.Sound.{Here}
+use Rattle.model.specs.Rules.{Spot, released}
 use Rattle.model.specs.Calls.{drawn}
-use Rattle.find.specs.declared.VariableBlock.{VariableBlock}
+use Rattle.model.specs.inner.Walks.{flag, lastFree, endsFree}
+use Rattle.model.specs.inner.Laid.{Laid}
+use Rattle.find.specs.declared.UsedBlock.{UsedBlock}
 use Rattle.find.specs.Find.{BlockFound}
 
 -- the low edge of what the block at p becomes, and the free block before that
@@ -42,8 +44,31 @@ pub record RightRoom (w : ℕ) (b : List ℕ) (q next : ℕ) : Type 0 where
   pub width : Width w
   pub block : next ≡ q → (tags (shape w) ≤ wordAt w b q) × (q + wordAt w b q ≤ length b)
 
+-- x is the block in use u of the spot t
+pub record InUse (w : ℕ) (L : Layout) (t : Spot) (u : Use) (x : UsedBlock) : Type 0 where
+  pub blocks : L .blocks ≡ t .pre ++ ((used u ∷ []) ++ t .post)
+  pub fits : useSize (shape w) u ≡ t .size
+  pub at : ends (shape w) (start (shape w)) (t .pre) ≡ x .at .0
+  pub size : t .size ≡ x .size
+  pub before : lastFree (shape w) (start (shape w)) (t .pre) 0 ≡ x .prev .0
+  pub touches : endsFree 0 (t .pre) ≡ flag (x .touching)
+
+-- x is a block in use of a heap, whatever its lists name
+pub record UsedIn (w : ℕ) (b : List ℕ) (x : UsedBlock) : Type 0 where
+  pub width : Width w
+  pub layout : Layout
+  pub laid : Laid w b layout
+  pub short : length b ≤ shape w .most
+  pub spot : Spot
+  pub block : Use
+  pub in-use : InUse w layout spot block x
+
+-- the heap with it given back
+pub record GivenBack (w : ℕ) (b : List ℕ) (x : UsedBlock) (c : List ℕ) : Type 0 where
+  pub draws : (L : Layout) (t : Spot) (u : Use) → Laid w b L → InUse w L t u x → c ≡ drawn (shape w) (record { blocks = released t; lists = L .lists }) b
+
 -- x is a live block of a sound heap
-pub record BlockLive (w : ℕ) (b : List ℕ) (x : VariableBlock) : Type 0 where
+pub record BlockLive (w : ℕ) (b : List ℕ) (x : UsedBlock) : Type 0 where
   pub width : Width w
   pub layout : Layout
   pub here : Here (shape w) b layout
@@ -51,8 +76,3 @@ pub record BlockLive (w : ℕ) (b : List ℕ) (x : VariableBlock) : Type 0 where
   pub address : ℕ
   pub spot : Spot
   pub found : BlockFound w layout address spot x
-
--- the heap with it given back
-pub record Released (w : ℕ) (b : List ℕ) (x : VariableBlock) (c : List ℕ) : Type 0 where
-  pub draws : (L : Layout) (a : ℕ) (t : Spot) → Here (shape w) b L → BlockFound w L a t x → c ≡ drawn (shape w) (freed (shape w) (block t) L) b
-  pub sound : Sound (shape w) c

@@ -1,5 +1,5 @@
-// A variable block is given back: it becomes free and joins a free neighbour on either side.
-use find::VariableBlock;
+// A block in use is given back: it becomes free and joins a free neighbour on either side.
+use find::UsedBlock;
 use links::link_at;
 use links::put_linked;
 use model::Position;
@@ -8,7 +8,7 @@ use model::previous_at;
 use words::word;
 ghost use mathlib.Core.Path.{_≡_};
 ghost use Prim.Native.Nat.{_+_};
-ghost use Rattle.releasing.specs.Release.{LeftRoom, RightRoom, leftAt, leftFree, rightAt, rightFree, BlockLive, Released};
+ghost use Rattle.releasing.specs.Release.{LeftRoom, RightRoom, leftAt, leftFree, rightAt, rightFree, UsedIn, GivenBack};
 
 // Where a joined block begins or ends, and the free block beyond that (0: none).
 pub struct Edge {
@@ -45,9 +45,9 @@ pub fn right_edge(w: usize, h: &[u8], q: Position, next: Position) -> Edge
 }
 
 // Gives the block x back.
-pub fn release(w: usize, h: &mut [u8], x: VariableBlock)
-    requires { ⌜ BlockLive w (now h) x ⌝ }
-    ensures { λ _. ⌜ Released w (now (h .entry)) x (now (h .exit)) ⌝ }
+pub fn release(w: usize, h: &mut [u8], x: UsedBlock)
+    requires { ⌜ UsedIn w (now h) x ⌝ }
+    ensures { λ _. ⌜ GivenBack w (now (h .entry)) x (now (h .exit)) ⌝ }
 {
     let q = Position(x.at.0 + x.size);
     let next = Position(word(w, h, link_at(w, x.prev).0));

@@ -23,34 +23,35 @@ use Rattle.model.proofs.pictures.Drawn.{drawn-here, drawn-same}
 use Rattle.model.proofs.blocks.Taken.{parts, takes-of}
 use Rattle.model.proofs.blocks.Replace.{three}
 use Rattle.model.proofs.blocks.Resizing.{both-ends, resizedIn, resized-valid, stays-same, stays-cut, stays-grown, stays-none}
-use Rattle.find.specs.declared.VariableBlock.{VariableBlock}
+use Rattle.find.specs.declared.UsedBlock.{UsedBlock}
 use Rattle.placing.specs.declared.Gap.{Gap}
 use Rattle.find.specs.Find.{BlockFound}
 use Rattle.links.specs.Links.{BackRoom}
 use Rattle.placing.specs.Blocks.{PartRoom, lowWords, highWords}
 use Rattle.releasing.specs.Release.{rightAt, rightFree, BlockLive}
 use Rattle.reshaping.specs.Reshape.{Reach, Large, Stays, Reshaped}
-use Rattle.releasing.proofs.ReleaseLaws.{blocks-are, next-free, RightOf, right-of}
+use Rattle.releasing.proofs.ReleaseLaws.{found-in-use, next-free, RightOf, right-of}
+use Rattle.model.proofs.items.Aligned.{laid}
 use Rattle.placing.proofs.Taking.{GapIs, part-need, part-drawn}
 use Rattle.model.proofs.Sizes.{most-bound}
 
 -- where the block x ends, and the next free block as the link to it says
-abbrev stopOf : VariableBlock → ℕ
+abbrev stopOf : UsedBlock → ℕ
 stopOf x = x .at .0 + x .size
 
-abbrev nextOf : ℕ → List ℕ → VariableBlock → ℕ
+abbrev nextOf : ℕ → List ℕ → UsedBlock → ℕ
 nextOf w b x = wordAt w b (linkOf (shape w) (x .prev .0))
 
 -- the block and its right neighbour in the middle
-module _ {w : ℕ} (wd : Width w) (b : List ℕ) (L : Layout) (a : ℕ) (t : Spot) (x : VariableBlock) (h : Here (shape w) b L) (f : BlockFound w L a t x) where
-  pub right : RightOf wd b L a t x h f (rightAt w b (stopOf x) (nextOf w b x)) (rightFree w b (stopOf x) (nextOf w b x))
+module _ {w : ℕ} (wd : Width w) (b : List ℕ) (L : Layout) (a : ℕ) (t : Spot) (x : UsedBlock) (h : Here (shape w) b L) (f : BlockFound w L a t x) where
+  pub right : RightOf wd b L t (variable (t .size)) x (laid wd h) (found-in-use wd L a t x f) (rightAt w b (stopOf x) (nextOf w b x)) (rightFree w b (stopOf x) (nextOf w b x))
   right =
-      right-of wd b L a t x h f (nextOf w b x) (next-free wd b L a t x h f (nextOf w b x) refl) (rightAt w b (stopOf x) (nextOf w b x)) (rightFree w b (stopOf x) (nextOf w b x)) refl refl
+      right-of wd b L t (variable (t .size)) x (laid wd h) (found-in-use wd L a t x f) (nextOf w b x) (next-free wd b L t (variable (t .size)) x (laid wd h) (found-in-use wd L a t x f) (nextOf w b x) refl) (rightAt w b (stopOf x) (nextOf w b x)) (rightFree w b (stopOf x) (nextOf w b x)) refl refl
 
   pub pair : Middle (shape w) b (endOf (length b)) (L .lists) (t .pre) (used (variable (t .size)) ∷ right .rights) (right .post) (x .at .0) (rightAt w b (stopOf x) (nextOf w b x)) (x .prev .0) (rightFree w b (stopOf x) (nextOf w b x))
   pair =
       middle-at (shape w) b L (t .pre) (used (variable (t .size)) ∷ right .rights) (right .post) (x .at .0) (rightAt w b (stopOf x) (nextOf w b x)) (x .prev .0) (rightFree w b (stopOf x) (nextOf w b x)) h
-      (blocks-are wd b L a t x h f ∙ ap (λ (l : List Block). t .pre ++ (used (variable (t .size)) ∷ l)) (right .post-is))
+      (found-in-use wd L a t x f .blocks ∙ ap (λ (l : List Block). t .pre ++ (used (variable (t .size)) ∷ l)) (right .post-is))
       (record {
         begins = f .at;
         finishes = both-ends (shape w) (t .size) (x .at .0) (right .r) (right .side) ∙ omega (arith, right .extent, f .size);
@@ -92,7 +93,7 @@ module _ {w : ℕ} (wd : Width w) (b : List ℕ) (L : Layout) (a : ℕ) (t : Spo
 
       pub unchanged : need ≤ x .size → x .size < need + 4 * w → Bytes b → Stays w b L (stays (shape w) n (block t) L) true b
       unchanged l m bytes =
-          let same : record { blocks = t .pre ++ (used (variable (t .size)) ∷ t .post); lists = L .lists } ≡ L = ap (λ (bs : List Block). record { blocks = bs; lists = L .lists }) (sym (blocks-are wd b L a t x h f)) in
+          let same : record { blocks = t .pre ++ (used (variable (t .size)) ∷ t .post); lists = L .lists } ≡ L = ap (λ (bs : List Block). record { blocks = bs; lists = L .lists }) (sym (found-in-use wd L a t x f .blocks)) in
           rw (stays-same (shape w) n L t (right .rights) (right .post) (right .r) (right .side) (right .post-is) (right .clear) (big .above) (omega (arith, f .size)) (omega (arith, f .size)), same)
           (record { answer = refl; bytes = drawn-same (shape w) b L h bytes; here = h })
 
@@ -103,7 +104,7 @@ module _ {w : ℕ} (wd : Width w) (b : List ℕ) (L : Layout) (a : ℕ) (t : Spo
           → h₂ ≡ putIf (shape w) (draw w (highWords w g u 2) h₁) (g .back .0) (restAt (shape w) u (g .size) (g .at .0) (g .prev .0)) → Stays w b L (stays (shape w) n (block t) L) true h₂
       unfolding resizedLayout useWords useSize draw
       written l way bytes short u eu h₁ h₂ e₁ e₂ =
-          let v = resized-valid (shape w) n L t (right .rights) (right .post) (right .r) (right .side) (right .post-is) (right .clear) (big .above) (endOf (length b)) (shape-good wd) (omega (arith, gap-is .size)) (h .valid) (blocks-are wd b L a t x h f) in
+          let v = resized-valid (shape w) n L t (right .rights) (right .post) (right .r) (right .side) (right .post-is) (right .clear) (big .above) (endOf (length b)) (shape-good wd) (omega (arith, gap-is .size)) (h .valid) (found-in-use wd L a t x f .blocks) in
           let u-is : u ≡ takes (shape w) (needOf (shape w) n) (t .size + right .r) = eu ∙ ap (λ (y : ℕ). takes (shape w) y (g .size)) en ∙ ap (λ (y : ℕ). takes (shape w) (needOf (shape w) n) y) (gap-is .size) in
           let k = takes-of (shape w) (needOf (shape w) n) (t .size + right .r) (omega (arith, gap-is .size)) in
           let d : h₂ ≡ drawn (shape w) resizedLayout b =
@@ -122,7 +123,7 @@ module _ {w : ℕ} (wd : Width w) (b : List ℕ) (L : Layout) (a : ℕ) (t : Spo
           })
 
 -- what code reads and writes, in its own numbers
-module _ {w : ℕ} (b : List ℕ) (x : VariableBlock) (k : BlockLive w b x) where
+module _ {w : ℕ} (b : List ℕ) (x : UsedBlock) (k : BlockLive w b x) where
   module _ (link next : ℕ) (el : link ≡ linkOf (shape w) (x .prev .0)) (en : next ≡ wordAt w b link) where
     next-is : next ≡ nextOf w b x
     next-is = en ∙ ap (λ (y : ℕ). wordAt w b y) el

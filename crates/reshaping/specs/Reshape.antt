@@ -11,13 +11,13 @@ use Rattle.model.specs.Sound.{Here}
 use Rattle.model.specs.Rules.{Spot, block, stays}
 use Rattle.model.specs.Calls.{drawn}
 use Rattle.model.specs.inner.Links.{linkOf, backOf}
-use Rattle.find.specs.declared.VariableBlock.{VariableBlock}
+use Rattle.find.specs.declared.UsedBlock.{UsedBlock}
 use Rattle.placing.specs.declared.Gap.{Gap}
 use Rattle.find.specs.Find.{BlockFound}
 use Rattle.releasing.specs.Release.{rightAt, rightFree}
 
 -- the block x and a free neighbour behind it, read as one gap
-pub record Reach (w : ℕ) (b : List ℕ) (x : VariableBlock) (g : Gap) : Type 0 where
+pub record Reach (w : ℕ) (b : List ℕ) (x : UsedBlock) (g : Gap) : Type 0 where
   pub at : g .at .0 ≡ x .at .0
   pub size : g .size ≡ rightAt w b (x .at .0 + x .size) (wordAt w b (linkOf (shape w) (x .prev .0))) - x .at .0
   pub next : g .next .0 ≡ rightFree w b (x .at .0 + x .size) (wordAt w b (linkOf (shape w) (x .prev .0)))
@@ -50,5 +50,5 @@ pub record Stays (w : ℕ) (b : List ℕ) (L : Layout) (o : Option Layout) (r : 
   pub here : Here (shape w) c (stayedLayout L o)
 
 -- the variable block x resized in place
-pub record Reshaped (w : ℕ) (b : List ℕ) (x : VariableBlock) (n : ℕ) (r : Bool) (c : List ℕ) : Type 0 where
+pub record Reshaped (w : ℕ) (b : List ℕ) (x : UsedBlock) (n : ℕ) (r : Bool) (c : List ℕ) : Type 0 where
   pub is : (L : Layout) (a : ℕ) (t : Spot) → Here (shape w) b L → BlockFound w L a t x → Stays w b L (stays (shape w) n (block t) L) r c

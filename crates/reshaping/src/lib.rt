@@ -1,5 +1,5 @@
 // A variable block is resized where it stands: its tail is given back, or it grows over a free neighbour behind it.
-use find::VariableBlock;
+use find::UsedBlock;
 use links::back_at;
 use links::link_at;
 use model::Position;
@@ -16,7 +16,7 @@ ghost use Rattle.releasing.specs.Release.{BlockLive};
 ghost use Rattle.reshaping.specs.Reshape.{Reach, Large, Reshaped};
 
 // The block x and a free neighbour behind it, read as one gap.
-fn reach(w: usize, h: &[u8], x: VariableBlock) -> Gap
+fn reach(w: usize, h: &[u8], x: UsedBlock) -> Gap
     requires { ⌜ BlockLive w (now h) x ⌝ }
     ensures { λ r. ⌜ Reach w (now (h .entry)) x r ⌝ }
 {
@@ -38,7 +38,7 @@ fn reach(w: usize, h: &[u8], x: VariableBlock) -> Gap
 }
 
 // Resizes the block x to n bytes where it stands: true; or false where it must move, and nothing changes.
-pub fn reshape(w: usize, h: &mut [u8], x: VariableBlock, n: usize) -> bool
+pub fn reshape(w: usize, h: &mut [u8], x: UsedBlock, n: usize) -> bool
     requires { ⌜ BlockLive w (now h) x ⌝ }
     requires { ⌜ Large w n ⌝ }
     ensures { λ r. ⌜ Reshaped w (now (h .entry)) x n r (now (h .exit)) ⌝ }

@@ -9,6 +9,7 @@ use native.Mathlib.Decide.{ℕ-discrete}
 use borrow.Author.Tests.{eq-eqb, ne-eqb}
 use lib.ListN.{length}
 use lib.Dec.{leb}
+use Rattle.words.proofs.YesNo.{yes-no}
 use Rattle.words.specs.Copy.{copied}
 use Rattle.model.specs.declared.Address.{Address}
 use Rattle.model.specs.declared.Position.{Position}
@@ -24,7 +25,7 @@ use Rattle.model.proofs.walks.Finding.{item-found}
 use Rattle.model.proofs.lives.LiveFound.{there-is}
 use Rattle.model.proofs.lives.Moving.{taken-large, item-again}
 use Rattle.model.proofs.blocks.Resizing.{item-stays, item-moves, small-moves}
-use Rattle.find.specs.declared.VariableBlock.{VariableBlock}
+use Rattle.find.specs.declared.UsedBlock.{UsedBlock}
 use Rattle.find.specs.declared.Live.{Live}
 use Rattle.find.specs.declared.Live.the-variants.{Nothing, Item, Variable}
 use Rattle.engine.specs.declared.allocate.Taken.{Taken}
@@ -35,7 +36,8 @@ use Rattle.engine.specs.Ready.{Ready}
 use Rattle.find.specs.Find.{Finds}
 use Rattle.engine.specs.Allocate.{Asked}
 use Rattle.holding.specs.Holding.{Holds}
-use Rattle.items.specs.Items.{ItemLive, GaveItem, RenewedItem}
+use Rattle.items.specs.Items.{ItemLive, ItemIn, GaveItem, RenewedItem}
+use Rattle.items.proofs.GiveLaws.{live-in, gave-draws}
 use Rattle.releasing.specs.Release.{BlockLive}
 use Rattle.reshaping.specs.Reshape.{Stays, Reshaped}
 use Rattle.moving.specs.Move.{Holding, Carried}
@@ -48,9 +50,6 @@ not-nothing-item o c k e = let z : _≡_ {A = ℕ} 0 1 = cc in omega arith
 
 not-nothing-block : (t : Spot) → block t ≡ nothing → ⊥
 not-nothing-block t e = let z : _≡_ {A = ℕ} 0 1 = cc in omega arith
-
-true-not-false : true ≡ false → ⊥
-true-not-false e = let z : _≡_ {A = ℕ} 0 1 = cc in omega arith
 
 -- of what is live, a way gives its own outcome
 by-live : (w : ℕ) (b : List ℕ) (a n : ℕ) (L : Layout) → (find (shape w) a L ≡ nothing → ⊥) → (v : Way) → resizedBy (shape w) v b a n L ≡ oneWay (shape w) v b a n L
@@ -140,20 +139,20 @@ module _ {w : ℕ} {b : List ℕ} {a q c k : ℕ} (i : ItemLiveAt w b a q c k) w
         item-again (shape w) (shape-good (i .ready .width)) (endOf (length d)) (m .0 .layout) (hc .valid) a (offsetOf (shape w) q) c k few (f .at)
         (rw (i .is L h) at (old-live b a (itemShown (shape w) c k) n item-holds s L h (m .0) (m .1)))
 
-    pub item-still : length d ≡ length b → ItemLive w d q c
+    pub item-still : length d ≡ length b → ItemIn w d q c
     item-still l =
         let L = i .ready .sound .layout in
         let h = i .ready .sound .here in
-        record { width = i .ready .width; layout = chosen g item-holds s x e L h .0 .layout; here = carried-in g item-holds s x e L h; short = rw l (i .ready .short); low = i .low; address = a; asked = again L h .0; found = again L h .1 }
+        live-in (record { width = i .ready .width; layout = chosen g item-holds s x e L h .0 .layout; here = carried-in g item-holds s x e L h; short = rw l (i .ready .short); low = i .low; address = a; asked = again L h .0; found = again L h .1 })
 
     pub item-gone : (d′ : List ℕ) → GaveItem w d q c d′ → ByWay w moving b a n (to.To x) d′
     item-gone d′ v =
         moved-to g item-holds s x e d′ (λ L h.
-        v .draws (chosen g item-holds s x e L h .0 .layout) a (again L h .0) (carried-in g item-holds s x e L h) (again L h .1)
+        gave-draws (i .ready .width) (i .low) v (chosen g item-holds s x e L h .0 .layout) a (again L h .0) (carried-in g item-holds s x e L h) (again L h .1)
         ∙ ap (λ (y : Found). drawn (shape w) (freed (shape w) y (chosen g item-holds s x e L h .0 .layout)) d) (sym (again L h .1)))
 
 -- a variable block
-module _ {w : ℕ} {b : List ℕ} {a : ℕ} {x : VariableBlock} (i : BlockLiveAt w b a x) where
+module _ {w : ℕ} {b : List ℕ} {a : ℕ} {x : UsedBlock} (i : BlockLiveAt w b a x) where
   block-is-live : (L : Layout) → Here (shape w) b L → find (shape w) a L ≡ nothing → ⊥
   block-is-live L h e = not-nothing-block (i .is L h .0) (sym (i .is L h .1 .found) ∙ e)
 
@@ -191,7 +190,7 @@ module _ {w : ℕ} {b : List ℕ} {a : ℕ} {x : VariableBlock} (i : BlockLiveAt
     reshaped-there e = record { is = λ L h. go L h (stays (shape w) n (find (shape w) a L) L) refl (told L h) }
       where
         go : (L : Layout) (h : Here (shape w) b L) (o : Option Layout) → stays (shape w) n (find (shape w) a L) L ≡ o → Stays w b L o r c → granted a c ≡ resizedBy (shape w) staying b a n L
-        go L h none s v = absurd (true-not-false (sym e ∙ v .answer))
+        go L h none s v = absurd (yes-no (sym e ∙ v .answer))
         go L h (some M) s v = remains w b a n L (block-is-live L h) c M s (v .bytes)
 
     pub not-reshaped : r ≡ false → ByWay w staying b a n to.NoRoom c
@@ -199,7 +198,7 @@ module _ {w : ℕ} {b : List ℕ} {a : ℕ} {x : VariableBlock} (i : BlockLiveAt
       where
         go : (L : Layout) (h : Here (shape w) b L) (o : Option Layout) → stays (shape w) n (find (shape w) a L) L ≡ o → Stays w b L o r c → refused c noRoom ≡ resizedBy (shape w) staying b a n L
         go L h none s v = ap (λ (y : List ℕ). refused y noRoom) (v .bytes) ∙ as-placed w b a n L (block-is-live L h) none s
-        go L h (some M) s v = absurd (true-not-false (sym (v .answer) ∙ e))
+        go L h (some M) s v = absurd (yes-no (sym (v .answer) ∙ e))
 
 -- what is found
 module _ {w : ℕ} (b : List ℕ) (a : ℕ) (k : Ready w b) (x : Live) (f : (L : Layout) → Here (shape w) b L → Finds w L a x) where
@@ -214,7 +213,7 @@ module _ {w : ℕ} (b : List ℕ) (a : ℕ) (k : Ready w b) (x : Live) (f : (L :
   unfolding Finds
   item-at q c n e = record { ready = k; low = found-as (Item q c n) e (k .sound .layout) (k .sound .here) .0; is = λ L h. found-as (Item q c n) e L h .1 }
 
-  pub block-at : (y : VariableBlock) → x ≡ Variable y → BlockLiveAt w b a y
+  pub block-at : (y : UsedBlock) → x ≡ Variable y → BlockLiveAt w b a y
   unfolding Finds
   block-at y e = record { ready = k; is = λ L h. found-as (Variable y) e L h }
 

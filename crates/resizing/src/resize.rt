@@ -1,7 +1,7 @@
 // The ways of resize, once the heap is known to be sound and the size to be good: where the record stands, by a move, as it is.
 use engine::allocate::Taken;
 use find::Live;
-use find::VariableBlock;
+use find::UsedBlock;
 use find::find;
 use holding::capacity;
 use items::give;
@@ -47,7 +47,7 @@ fn stay_item(w: usize, h: &mut [u8], a: Address, q: Position, c: usize, n: usize
 }
 
 // The variable block x, where it stands.
-fn stay_block(w: usize, h: &mut [u8], a: Address, x: VariableBlock, n: usize) -> Resized
+fn stay_block(w: usize, h: &mut [u8], a: Address, x: UsedBlock, n: usize) -> Resized
     requires { ⌜ BlockLiveAt w (now h) (a .0) x ⌝ }
     requires { ⌜ Asked w n ⌝ }
     ensures { λ r. ⌜ ByWay w staying (now (h .entry)) (a .0) n r (now (h .exit)) ⌝ }
@@ -100,7 +100,7 @@ fn move_item(
 }
 
 // The variable block x by a move. The free block before it is read first: the allocation may take the one that stands between.
-fn move_block(w: usize, h: &mut [u8], a: Address, x: VariableBlock, n: usize) -> Resized
+fn move_block(w: usize, h: &mut [u8], a: Address, x: UsedBlock, n: usize) -> Resized
     requires { ⌜ BlockLiveAt w (now h) (a .0) x ⌝ }
     requires { ⌜ Asked w n ⌝ }
     ensures { λ r. ⌜ ByWay w moving (now (h .entry)) (a .0) n r (now (h .exit)) ⌝ }

@@ -4,3 +4,4 @@ pub mod BitLaws
 pub mod ByteLaws
 pub mod CopyLaws
 pub mod HighLaws
+pub mod YesNo

@@ -1,7 +1,6 @@
-use Rattle.items.proofs.GiveLaws.{give-at, give-first}
+use Rattle.items.proofs.GiveLaws.{give-numbers, give-at, give-first}
 use Rattle.model.proofs.Sizes.{most-bound}
 use native.Mathlib.Omega.{arith}
-use Rattle.items.proofs.GiveLaws.{give-numbers}
 use borrow.Author.Needs.{needs}
 use Rattle.items.proofs.give.Statement.{statement}
 use Rattle.items.proofs.give.Tie as tie
@@ -16,7 +15,7 @@ head-at-requires : tie.Need-head-at-requires
 head-at-requires c κs = (c .before .pre .width, give-numbers _ _ _ (c .before .pre) .class)
 
 offset-of-requires : tie.Need-offset-of-requires
-offset-of-requires c κs = search needs
+offset-of-requires c κs = omega (arith, c .before .before .before .before .before .pre .width, give-numbers _ _ _ (c .before .before .before .before .before .pre))
 
 word-requires : tie.Need-word-requires
 word-requires c κs = omega (arith, most-bound (c .before .before .before .pre .width), give-numbers _ _ _ (c .before .before .before .pre))

@@ -4,7 +4,7 @@ use Rattle.jagwibodu.proofs.number.Statement.{statement}
 use Rattle.jagwibodu.proofs.number.Tie as tie
 use Rattle.jagwibodu.proofs.number.Reads as reads
 use Rattle.jagwibodu.proofs.number.Lts as lts
-use Rattle.heap.proofs.refusal_number.Reads as refusal-number-reads
+use Rattle.jagwibodu.proofs.refused.Reads as refused-reads
 
 enum-known-r : tie.Need-enum-known-r
 enum-known-r c = search needs
@@ -12,19 +12,16 @@ enum-known-r c = search needs
 enum-known-r-2 : tie.Need-enum-known-r-2
 enum-known-r-2 c = search needs
 
-refusal-number-requires : tie.Need-refusal-number-requires
-refusal-number-requires c κs = search needs
-
-mul-result : tie.Need-mul-result
-mul-result c = search needs
+refused-requires : tie.Need-refused-requires
+refused-requires c κs = search needs
 
 returns : tie.Need-returns
 returns c = number-granted _ _ (c .before .r .given .1)
 
 returns-2 : tie.Need-returns-2
-returns-2 c = number-refused _ _ _ (c .before .before .r2 .given .1) (c .refusal-number .ensures .0)
+returns-2 c = number-refused _ _ _ (c .before .before .r2 .given .1) (c .refused .ensures)
 
 pub number-spec : {M : Type 1} → statement M
 number-spec =
     tie.close
-    (tie.spec enum-known-r enum-known-r-2 refusal-number-requires mul-result returns returns-2)
+    (tie.spec enum-known-r enum-known-r-2 refused-requires returns returns-2)

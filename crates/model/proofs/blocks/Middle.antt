@@ -14,15 +14,17 @@ use Rattle.model.specs.Shape.{Shape, start, endOf}
 use Rattle.model.specs.Parts.{firstFreeAt}
 use Rattle.model.specs.Picture.{Word, Shows, draw}
 use Rattle.model.specs.Layout.{Block, free, used, Layout, useSize, sizeOf, ends, firstFree, useWords, own, blockWords, fixedLow, fixedHigh, words}
-use Rattle.model.specs.Sound.{Allowed, AllAllowed, Valid, Here}
+use Rattle.model.specs.Sound.{Allowed, AllAllowed, Here}
 use Rattle.model.proofs.pictures.Pictures.{shows-left, shows-right, draw-append}
 use Rattle.model.proofs.blocks.Blocks.{linkAt, backWords, ends-append, le-ends, allowed-left, allowed-right, first-below}
 use Rattle.model.specs.inner.Walks.{lastFree}
 use Rattle.model.specs.inner.Links.{linkOf, backOf, putIf}
+use Rattle.model.specs.inner.Laid.{Tiled}
 use Rattle.model.proofs.Good.{Good}
 use Rattle.model.proofs.blocks.Links.{link-range}
 use Rattle.model.proofs.blocks.Replace.{front, three, Places, words-parts}
 use Rattle.model.proofs.blocks.Remade.{remade}
+use Rattle.model.proofs.pictures.Drawn.{tiled}
 
 module _ (S : Shape) where
   -- the blocks `old` stand from p to q, with the free block before them at prev and the one behind them at next, 0 where there is none
@@ -33,16 +35,20 @@ module _ (S : Shape) where
     pub inside : end ≤ length b
     pub places : Places S pre old post p q prev next
 
-  pub middle-at : (b : List ℕ) (L : Layout) (pre old post : List Block) (p q prev next : ℕ) → Here S b L → L .blocks ≡ pre ++ (old ++ post) → Places S pre old post p q prev next
-      → Middle b (endOf (length b)) (L .lists) pre old post p q prev next
-  middle-at b L pre old post p q prev next h e f =
+  pub middle-in : (b : List ℕ) (L : Layout) (pre old post : List Block) (p q prev next : ℕ) → Tiled S (endOf (length b)) L → Shows (S .word) b (words S (endOf (length b)) L)
+      → L .blocks ≡ pre ++ (old ++ post) → Places S pre old post p q prev next → Middle b (endOf (length b)) (L .lists) pre old post p q prev next
+  middle-in b L pre old post p q prev next t s e f =
       record {
-        shown = subst (λ (bs : List Block). Shows (S .word) b (words S (endOf (length b)) (record { blocks = bs; lists = L .lists }))) e (h .shown);
-        allowed = subst (λ (bs : List Block). AllAllowed S bs) e (h .valid .allowed);
-        fills = subst (λ (bs : List Block). ends S (start S) bs ≡ endOf (length b)) e (h .valid .fills);
+        shown = subst (λ (bs : List Block). Shows (S .word) b (words S (endOf (length b)) (record { blocks = bs; lists = L .lists }))) e s;
+        allowed = subst (λ (bs : List Block). AllAllowed S bs) e (t .allowed);
+        fills = subst (λ (bs : List Block). ends S (start S) bs ≡ endOf (length b)) e (t .fills);
         inside = omega arith;
         places = f;
       }
+
+  pub middle-at : (b : List ℕ) (L : Layout) (pre old post : List Block) (p q prev next : ℕ) → Here S b L → L .blocks ≡ pre ++ (old ++ post) → Places S pre old post p q prev next
+      → Middle b (endOf (length b)) (L .lists) pre old post p q prev next
+  middle-at b L pre old post p q prev next h e f = middle-in b L pre old post p q prev next (tiled S (h .valid)) (h .shown) e f
 
   pub middle-of : (b : List ℕ) (L : Layout) (pre old post : List Block) (p : ℕ) → Here S b L → L .blocks ≡ pre ++ (old ++ post) → ends S (start S) pre ≡ p
       → Middle b (endOf (length b)) (L .lists) pre old post p (ends S p old) (lastFree S (start S) pre 0) (firstFree S (ends S p old) post 0)
@@ -172,7 +178,7 @@ module _ (S : Shape) where
         next-le = ⊎-elim (λ z. omega arith) (λ z. omega (arith, z .high)) next-in
 
     -- THE LAW: other blocks written in their place, and the two links, draw the layout with these
-    pub rewritten : (mid : List Block) → ends S p mid ≡ q → Good S → Bytes b → end ≤ S .most → Valid S end (three S ls pre mid post)
+    pub rewritten : (mid : List Block) → ends S p mid ≡ q → Good S → Bytes b → end ≤ S .most → Tiled S end (three S ls pre mid post)
         → putIf S (draw (S .word) (record { at = linkOf S prev; is = firstFree S p mid next } ∷ blockWords S ls p prev next mid) b) (backOf S b next) (lastFree S p mid prev)
         ≡ draw (S .word) (words S end (three S ls pre mid post)) b
     rewritten mid f good bytes short will =

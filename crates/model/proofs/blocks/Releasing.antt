@@ -5,14 +5,16 @@ use mathlib.Core.List.{List, [], _∷_, _++_, append-assoc, append-nil}
 use mathlib.Core.Logic.{_⊎_, inl, inr, ⊎-elim}
 use native.Mathlib.Omega.{arith}
 use Rattle.model.specs.Shape.{Shape, start, leastFree, leastVariable}
-use Rattle.model.specs.Layout.{variable, Block, free, used, Layout, ifFree, useSize, sizeOf, ends, firstFree}
-use Rattle.model.specs.Sound.{Allowed, AllowedUse, AllAllowed, Apart, idleIn, idleItems, Valid}
+use Rattle.model.specs.Layout.{Use, variable, Block, free, used, Layout, ifFree, useSize, sizeOf, ends, firstFree}
+use Rattle.model.specs.Sound.{times, Allowed, AllowedUse, AllAllowed, Apart, idleIn, idleItems, Valid}
 use Rattle.model.specs.Rules.{Spot, before, inFront, released}
 use Rattle.model.proofs.blocks.Blocks.{allowed-left, allowed-right}
 use Rattle.model.proofs.blocks.Replace.{three}
-use Rattle.model.proofs.blocks.Valid.{apart-append, apart-left, apart-right}
+use Rattle.model.proofs.blocks.Valid.{apart-append, apart-left, apart-right, items-append}
+use Rattle.model.proofs.pictures.Drawn.{times-append}
 use Rattle.model.specs.inner.Walks.{endsFree}
-use Rattle.model.proofs.blocks.Remade.{joined-valid}
+use Rattle.model.proofs.blocks.Remade.{joined-tiled, joined-valid}
+use Rattle.model.specs.inner.Laid.{Tiled}
 
 -- blocks that touch no free block stay as they are with a block in front
 pub before-apart : (b : Block) (bs : List Block) → Apart (ifFree b 1 0) bs → before b bs ≡ b ∷ bs
@@ -71,16 +73,16 @@ module _ (S : Shape) where
   right-not q (used u ∷ bs) n a = (omega arith, a .1)
 
   -- the released block between its two sides: the blocks before and behind all three, and the sizes of the sides
-  module _ (end : ℕ) (ls : List (List ℕ)) (t : Spot) (pre lefts rights post : List Block) (l r : ℕ) (left : Side lefts l) (right : Side rights r) (ep : t .pre ≡ pre ++ lefts) (eq : t .post ≡ rights ++ post) where
+  module _ (end : ℕ) (ls : List (List ℕ)) (t : Spot) (u : Use) (fits : useSize S u ≡ t .size) (pre lefts rights post : List Block) (l r : ℕ) (left : Side lefts l) (right : Side rights r) (ep : t .pre ≡ pre ++ lefts) (eq : t .post ≡ rights ++ post) where
     abbrev pub old : List Block
-    old = lefts ++ (used (variable (t .size)) ∷ rights)
+    old = lefts ++ (used u ∷ rights)
 
     abbrev pub joinedSize : ℕ
     joinedSize = l + (t .size + r)
 
-    pub sides-blocks : t .pre ++ ((used (variable (t .size)) ∷ []) ++ t .post) ≡ pre ++ (old ++ post)
+    pub sides-blocks : t .pre ++ ((used u ∷ []) ++ t .post) ≡ pre ++ (old ++ post)
     sides-blocks =
-        rw (ep, eq) (append-assoc pre lefts (used (variable (t .size)) ∷ (rights ++ post)) ∙ ap (λ (x : List Block). pre ++ x) (sym (append-assoc lefts (used (variable (t .size)) ∷ rights) post)))
+        rw (ep, eq) (append-assoc pre lefts (used u ∷ (rights ++ post)) ∙ ap (λ (x : List Block). pre ++ x) (sym (append-assoc lefts (used u ∷ rights) post)))
 
     -- the rule's result, where no free block touches the three
     right-joined : Apart 1 post → before (free (t .size)) (t .post) ≡ free (t .size + r) ∷ post
@@ -103,7 +105,7 @@ module _ (S : Shape) where
     unfolding Apart endsFree
     left-clear a z = go left (ap (λ (x : List Block). endsFree 0 x) ep) z (apart-right 0 pre (old ++ post) a)
       where
-        go : {ss : List Block} {n : ℕ} → Side ss n → endsFree 0 (t .pre) ≡ endsFree 0 (pre ++ ss) → (endsFree 0 (t .pre) ≡ 0) ⊎ (1 ≤ n) → Apart (endsFree 0 pre) ((ss ++ (used (variable (t .size)) ∷ rights)) ++ post) → endsFree 0 pre ≡ 0
+        go : {ss : List Block} {n : ℕ} → Side ss n → endsFree 0 (t .pre) ≡ endsFree 0 (pre ++ ss) → (endsFree 0 (t .pre) ≡ 0) ⊎ (1 ≤ n) → Apart (endsFree 0 pre) ((ss ++ (used u ∷ rights)) ++ post) → endsFree 0 pre ≡ 0
         go nobody e (inl k) h = ap (λ (x : List Block). endsFree 0 x) (sym (append-nil pre)) ∙ sym e ∙ k
         go nobody e (inr k) h = absurd (omega arith)
         go (neighbour s) e k h = omega (arith, h .0)
@@ -118,42 +120,48 @@ module _ (S : Shape) where
         ap (λ (x : List Block). inFront (t .pre) x) (right-joined k) ∙ left-joined
         ∙ in-front-apart 0 pre (free joinedSize ∷ post) (apart-append 0 pre (free joinedSize ∷ post) (apart-left 0 pre (old ++ post) a) (omega arith, k))
 
-    -- its extent, and that it holds no free item
+    -- its extent, and that it holds no free item where the block holds none
     pub ends-old : (p : ℕ) → ends S p old ≡ p + joinedSize
-    unfolding ends sizeOf useSize
+    unfolding ends sizeOf
     ends-old p = go left right
       where
-        go : {ss rs : List Block} {m n : ℕ} → Side ss m → Side rs n → ends S p (ss ++ (used (variable (t .size)) ∷ rs)) ≡ p + (m + (t .size + n))
+        go : {ss rs : List Block} {m n : ℕ} → Side ss m → Side rs n → ends S p (ss ++ (used u ∷ rs)) ≡ p + (m + (t .size + n))
         go nobody nobody = omega arith
         go nobody (neighbour n) = omega arith
         go (neighbour m) nobody = omega arith
         go (neighbour m) (neighbour n) = omega arith
 
-    idle-old : (c p : ℕ) → idleItems S c p old ≡ []
-    unfolding idleItems idleIn
-    idle-old c p = go left right
+    idle-old : ((c p : ℕ) → idleIn S c p (used u) ≡ []) → (c p : ℕ) → idleItems S c p old ≡ []
+    unfolding idleItems
+    idle-old none c p = go left right
       where
-        go : {ss rs : List Block} {m n : ℕ} → Side ss m → Side rs n → idleItems S c p (ss ++ (used (variable (t .size)) ∷ rs)) ≡ []
-        go nobody nobody = refl
-        go nobody (neighbour n) = refl
-        go (neighbour m) nobody = refl
-        go (neighbour m) (neighbour n) = refl
+        go : {ss rs : List Block} {m n : ℕ} → Side ss m → Side rs n → idleItems S c p (ss ++ (used u ∷ rs)) ≡ []
+        go nobody nobody = rw (none c p) refl
+        go nobody (neighbour n) = rw (none c p) (unfold idleIn in refl)
+        go (neighbour m) nobody = rw (none c (p + sizeOf S (free m))) (unfold idleIn in refl)
+        go (neighbour m) (neighbour n) = rw (none c (p + sizeOf S (free m))) (unfold idleIn in refl)
 
-    size-old : leastFree S ≤ leastVariable S → AllAllowed S old → (leastFree S ≤ joinedSize) × (joinedSize % 8 ≡ 0)
-    unfolding AllAllowed Allowed AllowedUse
-    size-old g a = go left right a
+    size-old : leastFree S ≤ t .size → t .size % 8 ≡ 0 → AllAllowed S old → (leastFree S ≤ joinedSize) × (joinedSize % 8 ≡ 0)
+    unfolding AllAllowed Allowed
+    size-old big eight a = go left right a
       where
-        go : {ss rs : List Block} {m n : ℕ} → Side ss m → Side rs n → AllAllowed S (ss ++ (used (variable (t .size)) ∷ rs)) → (leastFree S ≤ m + (t .size + n)) × ((m + (t .size + n)) % 8 ≡ 0)
-        go nobody nobody a = (omega (arith, a .0 .0), omega (arith, a .0 .1))
-        go nobody (neighbour n) a = (omega (arith, a .0 .0), omega (arith, a .0 .1, a .1 .0 .1))
-        go (neighbour m) nobody a = (omega (arith, a .1 .0 .0), omega (arith, a .0 .1, a .1 .0 .1))
-        go (neighbour m) (neighbour n) a = (omega (arith, a .1 .0 .0), omega (arith, a .0 .1, a .1 .0 .1, a .1 .1 .0 .1))
+        go : {ss rs : List Block} {m n : ℕ} → Side ss m → Side rs n → AllAllowed S (ss ++ (used u ∷ rs)) → (leastFree S ≤ m + (t .size + n)) × ((m + (t .size + n)) % 8 ≡ 0)
+        go nobody nobody a = (omega arith, omega arith)
+        go nobody (neighbour n) a = (omega arith, omega (arith, a .1 .0 .1))
+        go (neighbour m) nobody a = (omega arith, omega (arith, a .0 .1))
+        go (neighbour m) (neighbour n) a = (omega arith, omega (arith, a .0 .1, a .1 .1 .0 .1))
 
-    -- the heap with the block given back is valid
-    pub released-valid : leastFree S ≤ leastVariable S → Valid S end (three S ls pre old post) → endsFree 0 pre ≡ 0 → Apart 1 post → Valid S end (three S ls pre (free joinedSize ∷ []) post)
-    released-valid g v z k =
-        let a = size-old g (allowed-left S old post (allowed-right S pre (old ++ post) (v .allowed))) in
-        joined-valid S end ls pre post old joinedSize v (ends-old (ends S (start S) pre)) (a .0) (a .1) (λ c. idle-old c (ends S (start S) pre)) (λ h. apart-joined h z k)
+    -- the heap with the block given back
+    pub released-tiled : leastFree S ≤ t .size → t .size % 8 ≡ 0 → Tiled S end (three S ls pre old post) → endsFree 0 pre ≡ 0 → Apart 1 post → Tiled S end (three S ls pre (free joinedSize ∷ []) post)
+    released-tiled big eight v z k =
+        let a = size-old big eight (allowed-left S old post (allowed-right S pre (old ++ post) (v .allowed))) in
+        joined-tiled S end ls pre post old joinedSize v (ends-old (ends S (start S) pre)) (a .0) (a .1) (λ h. apart-joined h z k)
+
+    pub released-valid : leastFree S ≤ t .size → t .size % 8 ≡ 0 → ((c p : ℕ) → idleIn S c p (used u) ≡ []) → Valid S end (three S ls pre old post) → endsFree 0 pre ≡ 0 → Apart 1 post
+        → Valid S end (three S ls pre (free joinedSize ∷ []) post)
+    released-valid big eight none v z k =
+        let a = size-old big eight (allowed-left S old post (allowed-right S pre (old ++ post) (v .allowed))) in
+        joined-valid S end ls pre post old joinedSize v (ends-old (ends S (start S) pre)) (a .0) (a .1) (λ c. idle-old none c (ends S (start S) pre)) (λ h. apart-joined h z k)
 
 -- 1 or 0 is said of whether the last block is free
 pub free-or-not : (d : ℕ) (bs : List Block) → (d ≡ 0) ⊎ (d ≡ 1) → (endsFree d bs ≡ 0) ⊎ (endsFree d bs ≡ 1)
@@ -186,9 +194,9 @@ record Right (post : List Block) : Type 0 where
   is : post ≡ rights ++ rest
   clear : Apart 1 rest
 
-pub sides-of : (t : Spot) → Apart 0 (t .pre ++ (used (variable (t .size)) ∷ t .post)) → Sides t
+pub sides-of : (t : Spot) (u : Use) → Apart 0 (t .pre ++ (used u ∷ t .post)) → Sides t
 unfolding Apart
-sides-of t a = on-left (free-or-not 0 (t .pre) (inl refl)) (t .post) refl (apart-right 0 (t .pre) (used (variable (t .size)) ∷ t .post) a .1)
+sides-of t u a = on-left (free-or-not 0 (t .pre) (inl refl)) (t .post) refl (apart-right 0 (t .pre) (used u ∷ t .post) a .1)
   where
     on-right : (post : List Block) → Apart 0 post → Right post
     on-right [] h = record { rights = []; rest = []; r = 0; side = nobody; is = refl; clear = tt }
@@ -215,7 +223,7 @@ sides-of t a = on-left (free-or-not 0 (t .pre) (inl refl)) (t .post) refl (apart
     on-left (inr z) post e h =
         let g = on-right (t .post) h in
         let w = left-side (t .pre) z in
-        let b : Apart 0 (w .0 ++ ((free (w .1) ∷ []) ++ (used (variable (t .size)) ∷ t .post))) = rw append-assoc at (rw (w .2) at a) in
+        let b : Apart 0 (w .0 ++ ((free (w .1) ∷ []) ++ (used u ∷ t .post))) = rw append-assoc at (rw (w .2) at a) in
         record {
           pre = w .0;
           lefts = free (w .1) ∷ [];
@@ -227,19 +235,54 @@ sides-of t a = on-left (free-or-not 0 (t .pre) (inl refl)) (t .post) refl (apart
           right = g .side;
           pre-is = w .2;
           post-is = g .is;
-          clear-left = omega (arith, apart-right 0 (w .0) ((free (w .1) ∷ []) ++ (used (variable (t .size)) ∷ t .post)) b .0);
+          clear-left = omega (arith, apart-right 0 (w .0) ((free (w .1) ∷ []) ++ (used u ∷ t .post)) b .0);
           clear-right = g .clear;
         }
 
--- THE LAW: a layout stays valid where a variable block is given back
+-- a block in use, between its two sides
+module _ (S : Shape) (end : ℕ) (L : Layout) (t : Spot) (u : Use) (fits : useSize S u ≡ t .size) (apart : Apart 0 (L .blocks)) (e : L .blocks ≡ t .pre ++ ((used u ∷ []) ++ t .post)) where
+  s : Sides t
+  s = sides-of t u (subst (λ (l : List Block). Apart 0 l) e apart)
+
+  is : L .blocks ≡ s .pre ++ (old S end (L .lists) t u fits (s .pre) (s .lefts) (s .rights) (s .post) (s .l) (s .r) (s .left) (s .right) (s .pre-is) (s .post-is) ++ s .post)
+  is = e ∙ sides-blocks S end (L .lists) t u fits (s .pre) (s .lefts) (s .rights) (s .post) (s .l) (s .r) (s .left) (s .right) (s .pre-is) (s .post-is)
+
+  then : released t ≡ s .pre ++ (free (s .l + (t .size + s .r)) ∷ s .post)
+  then =
+      released-is S end (L .lists) t u fits (s .pre) (s .lefts) (s .rights) (s .post) (s .l) (s .r) (s .left) (s .right) (s .pre-is) (s .post-is)
+      (subst (λ (l : List Block). Apart 0 l) is apart) (s .clear-left) (s .clear-right)
+
+  -- THE LAW, of any block in use: the blocks stay as they must be where it is given back
+  pub freed-use-tiled : Tiled S end L → leastFree S ≤ t .size → t .size % 8 ≡ 0 → Tiled S end (record { blocks = released t; lists = L .lists })
+  freed-use-tiled v big eight =
+      subst (λ (l : List Block). Tiled S end (record { blocks = l; lists = L .lists })) (sym then)
+      (released-tiled S end (L .lists) t u fits (s .pre) (s .lefts) (s .rights) (s .post) (s .l) (s .r) (s .left) (s .right) (s .pre-is) (s .post-is) big eight
+      (subst (λ (l : List Block). Tiled S end (record { blocks = l; lists = L .lists })) is v) (s .clear-left) (s .clear-right))
+
+  -- and a layout stays valid where it has no free item
+  pub freed-use-valid : Valid S end L → leastFree S ≤ t .size → t .size % 8 ≡ 0 → ((c p : ℕ) → idleIn S c p (used u) ≡ []) → Valid S end (record { blocks = released t; lists = L .lists })
+  freed-use-valid v big eight none =
+      subst (λ (l : List Block). Valid S end (record { blocks = l; lists = L .lists })) (sym then)
+      (released-valid S end (L .lists) t u fits (s .pre) (s .lefts) (s .rights) (s .post) (s .l) (s .r) (s .left) (s .right) (s .pre-is) (s .post-is) big eight none
+      (subst (λ (l : List Block). Valid S end (record { blocks = l; lists = L .lists })) is v) (s .clear-left) (s .clear-right))
+
+  -- no item becomes free
+  pub freed-use-idle : (c o : ℕ) → times o (idleItems S c (start S) (released t)) ≤ times o (idleItems S c (start S) (L .blocks))
+  unfolding idleItems idleIn sizeOf
+  freed-use-idle c o =
+      let p = ends S (start S) (s .pre) in
+      let n = s .l + (t .size + s .r) in
+      let ol = old S end (L .lists) t u fits (s .pre) (s .lefts) (s .rights) (s .post) (s .l) (s .r) (s .left) (s .right) (s .pre-is) (s .post-is) in
+      let now = ap (λ (l : List Block). times o (idleItems S c (start S) l)) then ∙ ap (λ (l : List ℕ). times o l) (items-append S c (start S) (s .pre) (free n ∷ s .post)) ∙ times-append o (idleItems S c (start S) (s .pre)) (idleItems S c (p + n) (s .post)) in
+      let was = ap (λ (l : List Block). times o (idleItems S c (start S) l)) is ∙ ap (λ (l : List ℕ). times o l) (items-append S c (start S) (s .pre) (ol ++ s .post)) ∙ times-append o (idleItems S c (start S) (s .pre)) (idleItems S c p (ol ++ s .post)) in
+      let there = ap (λ (l : List ℕ). times o l) (items-append S c p ol (s .post)) ∙ times-append o (idleItems S c p ol) (idleItems S c (ends S p ol) (s .post)) in
+      let same = ap (λ (q : ℕ). times o (idleItems S c q (s .post))) (ends-old S end (L .lists) t u fits (s .pre) (s .lefts) (s .rights) (s .post) (s .l) (s .r) (s .left) (s .right) (s .pre-is) (s .post-is) p) in
+      omega (arith, now, was, there, same)
+
+-- so where a variable block is given back
 pub freed-block-valid : (S : Shape) → leastFree S ≤ leastVariable S → (end : ℕ) (L : Layout) (t : Spot) → Valid S end L → L .blocks ≡ t .pre ++ ((used (variable (t .size)) ∷ []) ++ t .post)
     → Valid S end (record { blocks = released t; lists = L .lists })
+unfolding useSize idleIn AllAllowed Allowed AllowedUse
 freed-block-valid S g end L t v e =
-    let a : Apart 0 (t .pre ++ (used (variable (t .size)) ∷ t .post)) = subst (λ (l : List Block). Apart 0 l) e (v .apart) in
-    let s = sides-of t a in
-    let bl : L .blocks ≡ s .pre ++ (old S end (L .lists) t (s .pre) (s .lefts) (s .rights) (s .post) (s .l) (s .r) (s .left) (s .right) (s .pre-is) (s .post-is) ++ s .post) =
-    e ∙ sides-blocks S end (L .lists) t (s .pre) (s .lefts) (s .rights) (s .post) (s .l) (s .r) (s .left) (s .right) (s .pre-is) (s .post-is) in
-    subst (λ (l : List Block). Valid S end (record { blocks = l; lists = L .lists }))
-    (sym (released-is S end (L .lists) t (s .pre) (s .lefts) (s .rights) (s .post) (s .l) (s .r) (s .left) (s .right) (s .pre-is) (s .post-is) (subst (λ (l : List Block). Apart 0 l) bl (v .apart)) (s .clear-left) (s .clear-right)))
-    (released-valid S end (L .lists) t (s .pre) (s .lefts) (s .rights) (s .post) (s .l) (s .r) (s .left) (s .right) (s .pre-is) (s .post-is) g
-    (subst (λ (l : List Block). Valid S end (record { blocks = l; lists = L .lists })) bl v) (s .clear-left) (s .clear-right))
+    let a = allowed-right S (t .pre) (used (variable (t .size)) ∷ t .post) (subst (λ (l : List Block). AllAllowed S l) e (v .allowed)) .0 in
+    freed-use-valid S end L t (variable (t .size)) refl (v .apart) e v (omega (arith, a .0)) (a .1) (λ c p. refl)

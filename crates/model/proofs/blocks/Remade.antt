@@ -10,18 +10,19 @@ use Rattle.model.specs.Shape.{Shape, start, leastFree}
 use Rattle.model.specs.Picture.{Shows, draw}
 use Rattle.model.specs.Layout.{Use, Block, free, used, useSize, sizeOf, ends, blockWords, words}
 use Rattle.model.specs.Sound.{AllowedUse, Allowed, AllAllowed, Apart, idleIn, idleItems, Valid}
+use Rattle.model.specs.inner.Laid.{Tiled}
 use Rattle.model.proofs.Good.{Good}
 use Rattle.model.proofs.pictures.Pictures.{Rise, rise-inside, draw-shows}
 use Rattle.model.proofs.blocks.Blocks.{le-ends, ends-append, allowed-left, allowed-right, rise-blocks, first-below, last-below}
 use Rattle.model.proofs.blocks.Replace.{three, Places, changes, replaced}
 use Rattle.model.proofs.pictures.Drawn.{fit-blocks}
-use Rattle.model.proofs.blocks.Valid.{replaced-valid, replaced-valid-at, apart-down}
+use Rattle.model.proofs.blocks.Valid.{replaced-tiled, replaced-valid, replaced-valid-at, apart-down}
 use Rattle.model.specs.inner.Walks.{endsFree}
 
 module _ (S : Shape) (end : ℕ) (ls : List (List ℕ)) (pre old mid post : List Block) (p q prev next : ℕ) where
   -- THE LAW, for any old and new blocks of the same extent
   pub remade : Good S → (b : List ℕ) → Bytes b → end ≤ length b → end ≤ S .most
-      → AllAllowed S old → Valid S end (three S ls pre mid post) → Places S pre old post p q prev next → ends S p mid ≡ q
+      → AllAllowed S old → Tiled S end (three S ls pre mid post) → Places S pre old post p q prev next → ends S p mid ≡ q
       → Shows (S .word) b (words S end (three S ls pre old post))
       → draw (S .word) (changes S pre mid post p q prev next (blockWords S ls p prev next mid)) b ≡ draw (S .word) (words S end (three S ls pre mid post)) b
   remade good b bytes inside short aold will at f shown =
@@ -64,7 +65,13 @@ module _ (S : Shape) (end : ℕ) (ls : List (List ℕ)) (pre post : List Block) 
       (omega arith) (λ d h. (omega (arith, h .0), apart-down 1 0 post (omega arith) (h .1)))
       (λ c. unfold idleIn in rw (none c) refl)
 
-  -- blocks with no free item become one free block
+  -- blocks become one free block
+  pub joined-tiled : (old : List Block) (n : ℕ) → Tiled S end (three S ls pre old post) → ends S (ends S (start S) pre) old ≡ ends S (start S) pre + n → leastFree S ≤ n → n % 8 ≡ 0
+      → (Apart (endsFree 0 pre) (old ++ post) → Apart (endsFree 0 pre) (free n ∷ post)) → Tiled S end (three S ls pre (free n ∷ []) post)
+  unfolding AllAllowed Allowed ends sizeOf
+  joined-tiled old n v e big eight a = replaced-tiled S end ls pre old (free n ∷ []) post v ((big, eight), tt) (sym e) a
+
+  -- and the layout stays valid where they have no free item
   pub joined-valid : (old : List Block) (n : ℕ) → Valid S end (three S ls pre old post) → ends S (ends S (start S) pre) old ≡ ends S (start S) pre + n → leastFree S ≤ n → n % 8 ≡ 0
       → ((c : ℕ) → idleItems S c (ends S (start S) pre) old ≡ []) → (Apart (endsFree 0 pre) (old ++ post) → Apart (endsFree 0 pre) (free n ∷ post)) → Valid S end (three S ls pre (free n ∷ []) post)
   unfolding AllAllowed Allowed ends sizeOf idleItems idleIn

@@ -19,6 +19,7 @@ use Rattle.model.proofs.blocks.Remade.{split-valid, whole-valid}
 use Rattle.model.proofs.blocks.Middle.{Middle, all-old, end-le, old-shown, rewritten}
 use Rattle.model.specs.inner.Links.{linkOf, backOf, putIf, takes, restAt}
 use Rattle.model.proofs.Good.{Good}
+use Rattle.model.proofs.pictures.Drawn.{tiled}
 
 module _ (S : Shape) where
   -- the words of the free rest
@@ -73,14 +74,14 @@ module _ (S : Shape) where
         → putIf S (draw (S .word) (record { at = linkOf S prev; is = p + useSize S U } ∷ (useWords S ls p U ++ own S [] (p + useSize S U) prev next (free (s - useSize S U)))) b) (backOf S b next) (p + useSize S U)
         ≡ draw (S .word) (words S end (three S ls pre (used U ∷ free (s - useSize S U) ∷ []) post)) b
     unfolding blockWords own firstFree lastFree sizeOf ends
-    taken-split U l good bytes short v = rewritten S m (used U ∷ free (s - useSize S U) ∷ []) (omega (arith, extent)) good bytes short v
+    taken-split U l good bytes short v = rewritten S m (used U ∷ free (s - useSize S U) ∷ []) (omega (arith, extent)) good bytes short (tiled S v)
 
     taken-whole : (U : Use) → useSize S U ≡ s → Good S → Bytes b → end ≤ S .most
         → Valid S end (three S ls pre (used U ∷ []) post)
         → putIf S (draw (S .word) (record { at = linkOf S prev; is = next } ∷ (useWords S ls p U ++ [])) b) (backOf S b next) prev
         ≡ draw (S .word) (words S end (three S ls pre (used U ∷ []) post)) b
     unfolding blockWords own firstFree lastFree sizeOf ends
-    taken-whole U l good bytes short v = rewritten S m (used U ∷ []) (omega (arith, extent)) good bytes short v
+    taken-whole U l good bytes short v = rewritten S m (used U ∷ []) (omega (arith, extent)) good bytes short (tiled S v)
 
     -- THE LAW: in place of blocks of the extent s, the link, a block in use, a free rest and the link back written draw the layout with them
     pub took-of : (u : ℕ) (U : Use) → useSize S U ≡ u → u ≤ s → Good S → Bytes b → end ≤ S .most → Valid S end (three S ls pre (parts u s U) post)

@@ -9,6 +9,8 @@ use Rattle.model.specs.Sound.{times, AllAllowed, Apart, idleIn, idleItem
 use Rattle.model.specs.inner.Walks.{endsFree}
 use Rattle.model.proofs.blocks.Blocks.{ends-append, allowed-append, allowed-left, allowed-right}
 use Rattle.model.proofs.blocks.Replace.{three}
+use Rattle.model.specs.inner.Laid.{Tiled}
+use Rattle.model.proofs.pictures.Drawn.{tiled, valid}
 
 pub ends-free-append : (d : ℕ) (xs ys : List Block) → endsFree d (xs ++ ys) ≡ endsFree (endsFree d xs) ys
 unfolding endsFree
@@ -41,7 +43,22 @@ module _ (S : Shape) where
   items-append c p [] ys = refl
   items-append c p (b ∷ xs) ys = rw (items-append c (p + sizeOf S b) xs ys) (sym (append-assoc (idleIn S c p b) _ _))
 
-  -- blocks in the middle become others, of the same extent and with the same free items, that touch no free block
+  -- blocks in the middle become others, of the same extent, that touch no free block
+  pub replaced-tiled : (end : ℕ) (ls : List (List ℕ)) (pre old mid post : List Block) → Tiled S end (three S ls pre old post) → AllAllowed S mid
+      → ends S (ends S (start S) pre) mid ≡ ends S (ends S (start S) pre) old
+      → (Apart (endsFree 0 pre) (old ++ post) → Apart (endsFree 0 pre) (mid ++ post))
+      → Tiled S end (three S ls pre mid post)
+  replaced-tiled end ls pre old mid post v a e n =
+      let p = ends S (start S) pre in
+      record {
+        fills = ends-append S (start S) pre (mid ++ post) ∙ ends-append S p mid post ∙ ap (λ (x : ℕ). ends S x post) e ∙ sym (ends-append S p old post) ∙ sym (ends-append S (start S) pre (old ++ post)) ∙ v .fills;
+        allowed = allowed-append S pre (mid ++ post) (allowed-left S pre (old ++ post) (v .allowed)) (allowed-append S mid post a (allowed-right S old post (allowed-right S pre (old ++ post) (v .allowed))));
+        apart = apart-append 0 pre (mid ++ post) (apart-left 0 pre (old ++ post) (v .apart)) (n (apart-right 0 pre (old ++ post) (v .apart)));
+        classes = v .classes;
+        below = v .below;
+      }
+
+  -- and have the same free items
   pub replaced-valid-at : (end : ℕ) (ls : List (List ℕ)) (pre old mid post : List Block) → Valid S end (three S ls pre old post) → AllAllowed S mid
       → ends S (ends S (start S) pre) mid ≡ ends S (ends S (start S) pre) old
       → (Apart (endsFree 0 pre) (old ++ post) → Apart (endsFree 0 pre) (mid ++ post))
@@ -49,16 +66,11 @@ module _ (S : Shape) where
       → Valid S end (three S ls pre mid post)
   replaced-valid-at end ls pre old mid post v a e n i =
       let p = ends S (start S) pre in
-      record {
-        fills = ends-append S (start S) pre (mid ++ post) ∙ ends-append S p mid post ∙ ap (λ (x : ℕ). ends S x post) e ∙ sym (ends-append S p old post) ∙ sym (ends-append S (start S) pre (old ++ post)) ∙ v .fills;
-        allowed = allowed-append S pre (mid ++ post) (allowed-left S pre (old ++ post) (v .allowed)) (allowed-append S mid post a (allowed-right S old post (allowed-right S pre (old ++ post) (v .allowed))));
-        apart = apart-append 0 pre (mid ++ post) (apart-left 0 pre (old ++ post) (v .apart)) (n (apart-right 0 pre (old ++ post) (v .apart)));
-        classes = v .classes;
-        listed = λ c o h. v .listed c o h ∙ ap (λ (l : List ℕ). times o l)
-            (items-append c (start S) pre (old ++ post) ∙ ap (λ (l : List ℕ). idleItems S c (start S) pre ++ l)
-            (items-append c p old post ∙ ap (λ (l : List ℕ). l ++ idleItems S c (ends S p old) post) (sym (i c)) ∙ ap (λ (x : ℕ). idleItems S c p mid ++ idleItems S c x post) (sym e) ∙ sym (items-append c p mid post))
-            ∙ sym (items-append c (start S) pre (mid ++ post)));
-      }
+      valid S (replaced-tiled end ls pre old mid post (tiled S v) a e n)
+      (λ c o h. v .listed c o h ∙ ap (λ (l : List ℕ). times o l)
+      (items-append c (start S) pre (old ++ post) ∙ ap (λ (l : List ℕ). idleItems S c (start S) pre ++ l)
+      (items-append c p old post ∙ ap (λ (l : List ℕ). l ++ idleItems S c (ends S p old) post) (sym (i c)) ∙ ap (λ (x : ℕ). idleItems S c p mid ++ idleItems S c x post) (sym e) ∙ sym (items-append c p mid post))
+      ∙ sym (items-append c (start S) pre (mid ++ post))))
 
   pub replaced-valid : (end : ℕ) (ls : List (List ℕ)) (pre old mid post : List Block) → Valid S end (three S ls pre old post) → AllAllowed S mid
       → ends S (ends S (start S) pre) mid ≡ ends S (ends S (start S) pre) old

@@ -1,31 +1,47 @@
 -- Offsets of free items are multiples of a word, so a header's low part, its rest by 16 words, is its class and its flags.
-use Prim.Native.Nat.{ℕ, zero, suc, _+_, _-_, _*_, _/_, _%_, _<_}
+use Prim.Native.Nat.{ℕ, zero, suc, _+_, _-_, _*_, _/_, _%_, _<_, _≤_}
 use mathlib.Core.Path.{_≡_, refl, sym, ap, _∙_}
 use mathlib.Core.List.{List, [], _∷_}
 use mathlib.Core.Logic.{⊎-elim}
 use native.Mathlib.Omega.{arith}
-use lib.ListN.{length, getD}
+use native.Mathlib.Decide.{decLt}
+use lib.ListN.{length, getD, List·getD-eq-default}
 use borrow.Author.Tests.{eq-eqb, ne-eqb}
 use Rattle.words.specs.Word.{wordAt}
 use Rattle.words.specs.Width.{Width}
-use Rattle.model.specs.Shape.{shape, itemSize, addressOf, offsetOf, start}
+use Rattle.model.specs.Shape.{shape, itemSize, addressOf, offsetOf, start, endOf}
 use Rattle.model.specs.Parts.{heldFlags, flagsIn, askedIn}
 use Rattle.model.specs.Picture.{Shows}
 use Rattle.model.specs.Layout.{Slot, idle, held, Layout, nextOf, header, slotWords}
-use Rattle.model.specs.Sound.{Valid}
+use Rattle.model.specs.Sound.{times, Valid, Here}
+use Rattle.model.specs.inner.Laid.{Laid}
 use Rattle.model.specs.Rules.{thing, nothing, inSlots}
 use Rattle.model.proofs.Good.{shape-good}
-use Rattle.model.proofs.pictures.Drawn.{next-of}
+use Rattle.model.proofs.pictures.Drawn.{next-of, tiled}
 use Rattle.model.proofs.Sizes.{start-eight, class-idle, class-held, zero-even}
 use Rattle.model.proofs.items.Asked.{asked-in}
 use Rattle.model.proofs.items.Offsets.{items-off}
 use Rattle.model.proofs.walks.Finding.{slots-below}
 
 module _ {w : ℕ} (wd : Width w) where
+  -- what a valid layout's lists name are multiples of a word
+  listed-aligned : (end : ℕ) (L : Layout) → Valid (shape w) end L → (c o : ℕ) → 1 ≤ times o (getD (L .lists) c []) → o % w ≡ 0
+  listed-aligned end L v c o e = go (decLt c (4 * w))
+    where
+      go : Dec (c < 4 * w) → o % w ≡ 0
+      go (yes l) = items-off wd c o (start (shape w)) (L .blocks) (v .allowed) (omega arith) (start-eight wd) (rw (v .listed c o l) at e) .even
+      go (no l) = absurd (unfold times in omega (arith, ap (λ (k : List ℕ). times o k) (List·getD-eq-default (L .lists) [] {n = c} (omega (arith, v .classes)))))
+
+  -- so a sound heap is laid out
+  pub laid : {b : List ℕ} {L : Layout} → Here (shape w) b L → Laid w b L
+  laid {b} {L} h = record { magic = h .magic; tiled = tiled (shape w) (h .valid); aligned = listed-aligned (endOf (length b)) L (h .valid); shown = h .shown }
+
+  -- and the next of an item is one too
+  pub next-even : (l : List ℕ) → ((o : ℕ) → 1 ≤ times o l → o % w ≡ 0) → (o : ℕ) → nextOf o l % w ≡ 0
+  next-even l a o = ⊎-elim (zero-even wd _) (λ e. a (nextOf o l) e) (next-of o l)
+
   pub next-aligned : (end : ℕ) (L : Layout) → Valid (shape w) end L → (c o : ℕ) → c < 4 * w → nextOf o (getD (L .lists) c []) % w ≡ 0
-  next-aligned end L v c o l =
-      ⊎-elim (zero-even wd _) (λ e. items-off wd c (nextOf o (getD (L .lists) c [])) (start (shape w)) (L .blocks) (v .allowed) (omega arith) (start-eight wd) (rw (v .listed c (nextOf o (getD (L .lists) c [])) l) at e) .even)
-      (next-of o (getD (L .lists) c []))
+  next-aligned end L v c o l = next-even (getD (L .lists) c []) (listed-aligned end L v c) o
 
   -- a page's items, as their headers tell them
   module _ (b : List ℕ) (l : List ℕ) (c : ℕ) (few : c < 4 * w) (aligned : (o : ℕ) → nextOf o l % w ≡ 0) where

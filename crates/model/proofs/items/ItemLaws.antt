@@ -12,7 +12,7 @@ use Rattle.model.specs.Picture.{Word, Shows, draw}
 use Rattle.model.specs.Shape.{Shape, start, index, tags, itemSize}
 use Rattle.model.specs.Parts.{firstFreeAt}
 use Rattle.model.specs.Layout.{Slot, variable, page, Block, free, used, Layout, headOf, nextOf, useSize, sizeOf, ends, firstFree, header, slotWords, useWords, own, blockWords, headWords, fixedLow, fixedHigh, words}
-use Rattle.model.specs.Sound.{Valid}
+use Rattle.model.specs.inner.Laid.{Tiled}
 use Rattle.model.proofs.pictures.Pictures.{Outside, length-draw, bytes-draw, draw-out, draw-over}
 use Rattle.model.proofs.blocks.Blocks.{rise-blocks}
 use Rattle.model.proofs.blocks.Replace.{rise-low, rise-high, rise-heads}
@@ -54,7 +54,7 @@ module _ (S : Shape) (good : Good S) where
       (slots-has d (getD ls d []) q (p + S .word) ss (subst (λ (d : ℕ). InSlots S d q (p + S .word) ss) (h .0) (h .1)))))
   blocks-has ls c q p prev next (used u ∷ bs) (inr h) = has-right q (useWords S ls p u) (blockWords S ls (p + useSize S u) prev next bs) (blocks-has ls c q (p + useSize S u) prev next bs h)
 
-  module _ (end : ℕ) (L : Layout) (v : Valid S end L) (c : ℕ) (cl : c < S .classes) (l : List ℕ) where
+  module _ (end : ℕ) (L : Layout) (v : Tiled S end L) (c : ℕ) (cl : c < S .classes) (l : List ℕ) where
     -- where the head of class c stands
     abbrev pub headAt : ℕ
     headAt = index S + S .word * c
@@ -139,7 +139,7 @@ module _ (S : Shape) (good : Good S) where
           (two-put (S .word) (good .word) headAt (headOf l) q value 8 (words S end L) end b (rise-words S good end L v short) n bytes f g has-head has-item sh)
 
       -- both pictures have words at the same positions, so the new one drawn over the old is the new one alone
-      pub item-over : (b : List ℕ) → end ≤ length b → Bytes b → end ≤ S .most → Valid S end changed
+      pub item-over : (b : List ℕ) → end ≤ length b → Bytes b → end ≤ S .most → Tiled S end changed
           → draw (S .word) (words S end changed) (draw (S .word) (words S end L) b) ≡ draw (S .word) (words S end changed) b
       item-over b n bytes short v′ =
           draw-over (S .word) 8 (words S end changed) end b (draw (S .word) (words S end L) b) (rise-words S good end changed v′ short) n (fit-words S good end changed v′ short)

@@ -3,7 +3,7 @@ use Prim.Native.Nat.{ℕ, suc, _+_, _-_, _*_, _≤_, _<_}
 use mathlib.Core.Path.{_≡_, refl, sym, ap, subst}
 use mathlib.Core.Bool.{cond}
 use mathlib.Core.List.{List, [], _∷_, _++_}
-use mathlib.Core.Logic.{_⊎_, inl, inr}
+use mathlib.Core.Logic.{inl, inr}
 use native.Mathlib.Omega.{arith}
 use native.Mathlib.Decide.{ℕ-discrete}
 use lib.ListN.{length, getD}
@@ -12,44 +12,40 @@ use borrow.Author.Tests.{eq-eqb, ne-eqb}
 use Rattle.model.specs.Picture.{Word}
 use Rattle.model.specs.Shape.{Shape, index, tags, itemSize}
 use Rattle.model.specs.Layout.{Slot, idle, held, Use, variable, page, Block, free, used, nextOf, useSize, sizeOf, ends, firstFree, header, slotWords, useWords, own, blockWords}
-use Rattle.model.specs.Sound.{AllAllowed}
+use Rattle.model.specs.Sound.{Allowed, AllowedUse, AllAllowed}
+unfoldable pub use Rattle.model.specs.inner.Items.{InSlots, InUse, InBlocks}
 use Rattle.model.proofs.blocks.Blocks.{le-ends, rise-own, rise-blocks}
 use Rattle.model.proofs.pictures.Change.{setAt, set-append, set-away}
 use Rattle.model.specs.Rules.{itemTo, slotTo, useTo}
 use Rattle.model.proofs.Good.{Good}
 
 module _ (S : Shape) where
-  -- q is where an item of class c has its header
-  unfoldable pub InSlots : ℕ → ℕ → ℕ → List Slot → Type 0
-  InSlots c q p [] = ⊥
-  InSlots c q p (s ∷ ss) = (q ≡ p) ⊎ InSlots c q (p + itemSize S c) ss
-
-  unfoldable pub InUse : ℕ → ℕ → ℕ → Use → Type 0
-  InUse c q p (variable t) = ⊥
-  InUse c q p (page d k ss) = (c ≡ d) × InSlots c q (p + S .word) ss
-
-  unfoldable pub InBlocks : ℕ → ℕ → ℕ → List Block → Type 0
-  InBlocks c q p [] = ⊥
-  InBlocks c q p (free t ∷ bs) = InBlocks c q (p + t) bs
-  InBlocks c q p (used u ∷ bs) = InUse c q p u ⊎ InBlocks c q (p + useSize S u) bs
-
-  pub slots-range : (c q p : ℕ) (ss : List Slot) → InSlots c q p ss → (p ≤ q) × (q + itemSize S c ≤ p + length ss * itemSize S c)
+  pub slots-range : (c q p : ℕ) (ss : List Slot) → InSlots S c q p ss → (p ≤ q) × (q + itemSize S c ≤ p + length ss * itemSize S c)
   unfolding InSlots
   slots-range c q p [] h = absurd h
   slots-range c q p (s ∷ ss) (inl e) = (omega arith, omega arith)
   slots-range c q p (s ∷ ss) (inr h) = let k = slots-range c q (p + itemSize S c) ss h in (omega (arith, k .0), omega (arith, k .1))
 
-  pub use-range : (c q p : ℕ) (u : Use) → InUse c q p u → (p + S .word ≤ q) × (q + 2 * S .word + 8 ≤ p + useSize S u)
+  pub use-range : (c q p : ℕ) (u : Use) → InUse S c q p u → (p + S .word ≤ q) × (q + 2 * S .word + 8 ≤ p + useSize S u)
   unfolding InUse useSize
   use-range c q p (variable t) h = absurd h
   use-range c q p (page d k ss) h = let r = slots-range c q (p + S .word) ss (h .1) in (r .0, rw (← h .0) (omega (arith, r .1)))
 
-  pub blocks-range : (c q p : ℕ) (bs : List Block) → InBlocks c q p bs → (p ≤ q) × (q + 2 * S .word + 8 ≤ ends S p bs)
+  pub blocks-range : (c q p : ℕ) (bs : List Block) → InBlocks S c q p bs → (p ≤ q) × (q + 2 * S .word + 8 ≤ ends S p bs)
   unfolding InBlocks ends sizeOf
   blocks-range c q p [] h = absurd h
   blocks-range c q p (free t ∷ bs) h = let k = blocks-range c q (p + t) bs h in (omega (arith, k .0), k .1)
   blocks-range c q p (used u ∷ bs) (inl h) = let k = use-range c q p u h in (omega (arith, k .0), omega (arith, k .1, le-ends S (p + useSize S u) bs))
   blocks-range c q p (used u ∷ bs) (inr h) = let k = blocks-range c q (p + useSize S u) bs h in (omega (arith, k .0), k .1)
+
+  -- and its class is one that there is
+  pub blocks-class : (c q p : ℕ) (bs : List Block) → AllAllowed S bs → InBlocks S c q p bs → c < S .classes
+  unfolding InBlocks InUse AllAllowed Allowed AllowedUse
+  blocks-class c q p [] a i = absurd i
+  blocks-class c q p (free t ∷ bs) a i = blocks-class c q (p + t) bs (a .1) i
+  blocks-class c q p (used (variable t) ∷ bs) a (inl i) = absurd i
+  blocks-class c q p (used (page d k ss) ∷ bs) a (inl i) = omega (arith, i .0, a .0 .0)
+  blocks-class c q p (used u ∷ bs) a (inr i) = blocks-class c q (p + useSize S u) bs (a .1) i
 
   pub length-slotTo : (s : Slot) (c q p : ℕ) (ss : List Slot) → length (slotTo S s c q p ss) ≡ length ss
   unfolding slotTo
@@ -104,7 +100,7 @@ module _ (S : Shape) where
           go (yes e) r = rw (eq-eqb q p e, r, e)
           go (no e) r = rw (ne-eqb q p e, header-away c p x h e, r)
 
-      page-here : (p k : ℕ) (ss : List Slot) → index S ≤ p → InSlots c q (p + S .word) ss
+      page-here : (p k : ℕ) (ss : List Slot) → index S ≤ p → InSlots S c q (p + S .word) ss
           → useWords S ls′ p (useTo S s q p (page c k ss)) ≡ setAt q (header S c (getD ls′ c []) q s) (useWords S ls p (page c k ss))
       unfolding useWords useTo setAt useSize
       page-here p k ss h i =
@@ -118,13 +114,13 @@ module _ (S : Shape) where
             ne-eqb q (p + (tags S + length ss * itemSize S c + k) - S .word) (λ e. omega (arith, r .1)),
           )
 
-      use-here : (p : ℕ) (u : Use) → index S ≤ p → InUse c q p u → useWords S ls′ p (useTo S s q p u) ≡ setAt q (header S c (getD ls′ c []) q s) (useWords S ls p u)
+      use-here : (p : ℕ) (u : Use) → index S ≤ p → InUse S c q p u → useWords S ls′ p (useTo S s q p u) ≡ setAt q (header S c (getD ls′ c []) q s) (useWords S ls p u)
       unfolding InUse
       use-here p (variable t) h i = absurd i
       use-here p (page d k ss) h i =
           subst (λ (d : ℕ). useWords S ls′ p (useTo S s q p (page d k ss)) ≡ setAt q (header S c (getD ls′ c []) q s) (useWords S ls p (page d k ss))) (i .0) (page-here p k ss h (i .1))
 
-      pub blocks-here : (p prev next : ℕ) (bs : List Block) → AllAllowed S bs → index S ≤ p → InBlocks c q p bs → blockWords S ls′ p prev next (itemTo S s q p bs) ≡ setAt q (header S c (getD ls′ c []) q s) (blockWords S ls p prev next bs)
+      pub blocks-here : (p prev next : ℕ) (bs : List Block) → AllAllowed S bs → index S ≤ p → InBlocks S c q p bs → blockWords S ls′ p prev next (itemTo S s q p bs) ≡ setAt q (header S c (getD ls′ c []) q s) (blockWords S ls p prev next bs)
       unfolding blockWords itemTo InBlocks sizeOf AllAllowed own
       blocks-here p prev next [] a h i = absurd i
       blocks-here p prev next (free t ∷ bs) a h i =

@@ -19,7 +19,7 @@ use Rattle.model.proofs.items.Items.{InSlots, InUse, InBlocks, slots-ra
 use Rattle.model.proofs.items.Asked.{held-fits}
 use Rattle.model.proofs.items.ItemLaws.{item-law, item-over}
 use Rattle.model.proofs.items.ItemValid.{items-this, changed-valid}
-use Rattle.model.proofs.pictures.Drawn.{times-append, drawn-here}
+use Rattle.model.proofs.pictures.Drawn.{times-append, tiled, drawn-here}
 use Rattle.model.specs.Rules.{itemTo, popped, slotTo, useTo}
 use Rattle.model.proofs.Good.{Good}
 
@@ -146,10 +146,10 @@ module _ (S : Shape) where
           → put (S .word) (put (S .word) b (index S + S .word * c) (headOf os)) (index S + o) (heldHeader c n) ≡ draw (S .word) (words S (endOf (length b)) (popped S n c o os L)) b
       unfolding header
       pop-law bytes f =
-          item-law S good (endOf (length b)) L (h .valid) c cl os (index S + o) o refl (held n) agree (found .there) b (omega arith) bytes f (held-fits S good c n cl fits) (omega arith) (h .shown)
+          item-law S good (endOf (length b)) L (tiled S (h .valid)) c cl os (index S + o) o refl (held n) agree (found .there) b (omega arith) bytes f (held-fits S good c n cl fits) (omega arith) (h .shown)
 
       -- drawn over the layout before it, the layout with the item in use is drawn alone
       pub popped-over : (a : List ℕ) → length a ≡ length b → Bytes a
           → draw (S .word) (words S (endOf (length b)) (popped S n c o os L)) (draw (S .word) (words S (endOf (length b)) L) a) ≡ draw (S .word) (words S (endOf (length b)) (popped S n c o os L)) a
       popped-over a e bytes =
-          item-over S good (endOf (length b)) L (h .valid) c cl os (index S + o) o refl (held n) agree (found .there) a (omega arith) bytes (omega arith) popped-valid
+          item-over S good (endOf (length b)) L (tiled S (h .valid)) c cl os (index S + o) o refl (held n) agree (found .there) a (omega arith) bytes (omega arith) (tiled S popped-valid)

@@ -18,6 +18,7 @@ use Rattle.model.specs.Live.{_∈_, InTurn, Payload, slotsLive, useLive,
 use Rattle.model.proofs.Good.{Good}
 use Rattle.model.proofs.lives.Members.{in-left, in-right, in-either}
 use Rattle.model.proofs.pictures.Pictures.{Outside, clear-outside, shows-same}
+use Rattle.model.proofs.pictures.Drawn.{tiled}
 use Rattle.model.proofs.lives.Payloads.{live-within, slots-within, in-area, no-overlap, words-clear}
 use Rattle.model.proofs.walks.Finding.{slots-above, block-found, item-found}
 use Rattle.model.proofs.blocks.Blocks.{allowed-right}
@@ -140,7 +141,7 @@ module _ (S : Shape) where
     where
       at : (i : ℕ) → y .address + k ≤ length b → (Outside (S .word) i (words S (endOf (length b)) L) → ⊥) → Dec (y .address ≤ i) → Dec (i < y .address + k) → getD (copied from (y .address) k b) i 0 ≡ getD b i 0
       at i target out (yes p) (yes q) =
-          absurd (out (clear-outside (S .word) (y .address) (y .address + y .size) (words S (endOf (length b)) L) i p (omega arith) (words-clear S y (endOf (length b)) L (h .valid) m)))
+          absurd (out (clear-outside (S .word) (y .address) (y .address + y .size) (words S (endOf (length b)) L) i p (omega arith) (words-clear S y (endOf (length b)) L (tiled S (h .valid)) m)))
       at i target out (no p) d = copied-out b from (y .address) k source target i (λ x z. p x)
       at i target out (yes p) (no q) = copied-out b from (y .address) k source target i (λ x z. q z)
 

@@ -13,10 +13,12 @@ use Rattle.model.specs.Layout.{Slot, idle, held, Use, variable, page, Bl
 use Rattle.model.specs.Sound.{Allowed, AllowedUse, AllAllowed, Valid}
 use Rattle.model.specs.Live.{_∈_, InTurn, Payload, content, slotsLive, useLive, liveFrom, live}
 use Rattle.model.specs.Promises.{NoOverlap, InArea, NoWordInside}
+use Rattle.model.specs.inner.Laid.{Tiled}
 use Rattle.model.proofs.lives.Members.{in-either, turn-either}
 use Rattle.model.proofs.pictures.Pictures.{Clear, rise-clear, clear-append, clear-word, clear-outside, draw-out, length-draw}
 use Rattle.model.proofs.blocks.Blocks.{le-ends, rise-slots, rise-own, rise-blocks}
 use Rattle.model.proofs.blocks.Replace.{rise-low, rise-high}
+use Rattle.model.proofs.pictures.Drawn.{tiled}
 
 -- where a payload lies: from lo on and below hi
 abbrev pub Within : ℕ → ℕ → Payload → Type 0
@@ -132,7 +134,7 @@ module _ (S : Shape) where
         (blocks-clear ls q prev next bs (a .1) k))
         (in-either x (useLive S p u) (liveFrom S q bs) h)
 
-    pub words-clear : (end : ℕ) (L : Layout) → Valid S end L → x ∈ live S L → Untouched (words S end L)
+    pub words-clear : (end : ℕ) (L : Layout) → Tiled S end L → x ∈ live S L → Untouched (words S end L)
     unfolding words Clear
     words-clear end L v h =
         let r = live-within (start S) (L .blocks) (v .allowed) x h in
@@ -145,10 +147,13 @@ module _ (S : Shape) where
         )
 
   pub no-word-inside : NoWordInside S
-  no-word-inside end L v x h w m = clear-word (S .word) (x .address) (x .address + x .size) (words S end L) w m (words-clear x end L v h)
+  no-word-inside end L v x h w m = clear-word (S .word) (x .address) (x .address + x .size) (words S end L) w m (words-clear x end L (tiled S v) h)
 
   -- THE LAW: a payload that is live in a layout keeps its bytes when the layout is drawn
-  pub content-kept : (end : ℕ) (L : Layout) (b : List ℕ) → Valid S end L → (x : Payload) → x ∈ live S L → content (draw (S .word) (words S end L) b) x ≡ content b x
-  content-kept end L b v x h =
+  pub tiled-kept : (end : ℕ) (L : Layout) (b : List ℕ) → Tiled S end L → (x : Payload) → x ∈ live S L → content (draw (S .word) (words S end L) b) x ≡ content b x
+  tiled-kept end L b v x h =
       part-agree (draw (S .word) (words S end L) b) b (x .address) (x .size) (length-draw (S .word) (words S end L) b)
       (λ i l m. draw-out (S .word) (words S end L) b i (clear-outside (S .word) (x .address) (x .address + x .size) (words S end L) i l m (words-clear x end L v h)))
+
+  pub content-kept : (end : ℕ) (L : Layout) (b : List ℕ) → Valid S end L → (x : Payload) → x ∈ live S L → content (draw (S .word) (words S end L) b) x ≡ content b x
+  content-kept end L b v x h = tiled-kept end L b (tiled S v) x h

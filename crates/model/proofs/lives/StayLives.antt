@@ -297,7 +297,7 @@ module _ (S : Shape) where
     block-stays te = go (decLe n (largestItem S))
       where
         s : Sides t
-        s = sides-of t (subst (λ (l : List Block). Apart 0 l) e (v .apart))
+        s = sides-of t (variable (t .size)) (subst (λ (l : List Block). Apart 0 l) e (v .apart))
 
         all : AllAllowed S (used (variable (t .size)) ∷ t .post)
         all = allowed-right S (t .pre) (used (variable (t .size)) ∷ t .post) (subst (λ (l : List Block). AllAllowed S l) e (v .allowed))

@@ -1,23 +1,24 @@
 -- A valid layout, drawn over bytes, is shown by them: so a call that draws a valid layout leaves a sound heap.
 use Prim.Native.Nat.{ℕ, suc, _+_, _-_, _*_, _≤_, _<_}
-use mathlib.Core.Path.{_≡_, refl, _∙_}
+use mathlib.Core.Path.{_≡_, refl, ap, _∙_}
 use mathlib.Core.Bool.{cond}
 use mathlib.Core.List.{List, [], _∷_, _++_}
 use mathlib.Core.Logic.{_⊎_, inl, inr, ⊎-elim}
 use native.Mathlib.Omega.{arith}
-use native.Mathlib.Decide.{ℕ-discrete, decLe}
-use lib.ListN.{length, getD}
+use native.Mathlib.Decide.{ℕ-discrete, decLe, decLt}
+use lib.ListN.{length, getD, List·getD-eq-default}
 use lib.Dec.{eqb}
 use borrow.Author.Tests.{eq-eqb, ne-eqb}
 use Rattle.words.specs.Word.{wordAt, Bytes}
 use Rattle.words.proofs.WordLaws.{word-agree}
-use Rattle.model.specs.Picture.{draw}
+use Rattle.model.specs.Picture.{Shows, draw}
 use Rattle.model.proofs.Good.{Good}
 use Rattle.model.proofs.pictures.Pictures.{Rise, Fit, fit-append, rise-outside, draw-out, draw-shows, drawn, length-draw}
 use Rattle.model.specs.Shape.{Shape, start, index, offsetOf, tags, itemSize, endOf}
 use Rattle.model.specs.Layout.{Slot, idle, held, Use, variable, page, Block, free, used, Layout, headOf, nextOf, useSize, sizeOf, ends, header, slotWords, useWords, own, blockWords, headWords, fixedLow, fixedHigh, words}
 use Rattle.model.proofs.blocks.Blocks.{le-ends, first-below}
 use Rattle.model.specs.Sound.{times, AllWithin, Allowed, AllowedUse, AllAllowed, idleSlots, idleIn, idleItems, Valid, Here}
+use Rattle.model.specs.inner.Laid.{Tiled}
 use Rattle.model.proofs.blocks.Replace.{front, rise-front}
 use Rattle.model.proofs.items.Asked.{held-fits}
 
@@ -74,16 +75,28 @@ module _ (S : Shape) where
       go (yes e) r = omega (arith, in-below c o p b e, le-ends S (p + sizeOf S b) bs)
       go (no e) r = r (omega (arith, times-append o (idleIn S c p b) (idleItems S c (p + sizeOf S b) bs)))
 
+  -- a valid layout's lists name offsets within the heap
+  pub tiled : {end : ℕ} {L : Layout} → Valid S end L → Tiled S end L
+  tiled {end} {L} v = record { fills = v .fills; allowed = v .allowed; apart = v .apart; classes = v .classes; below = λ c o e. go c o e (decLt c (S .classes)) }
+    where
+      go : (c o : ℕ) → 1 ≤ times o (getD (L .lists) c []) → Dec (c < S .classes) → o ≤ end
+      go c o e (yes h) = rw (v .fills) at (item-below c o (start S) (L .blocks) (rw (v .listed c o h) at e))
+      go c o e (no h) = absurd (unfold times in omega (arith, ap (λ (l : List ℕ). times o l) (List·getD-eq-default (L .lists) [] {n = c} (omega (arith, v .classes)))))
+
+  -- and the other way, where each visits the free items of its class
+  pub valid : {end : ℕ} {L : Layout} → Tiled S end L → ((c o : ℕ) → c < S .classes → times o (getD (L .lists) c []) ≡ times o (idleItems S c (start S) (L .blocks))) → Valid S end L
+  valid t l = record { fills = t .fills; allowed = t .allowed; apart = t .apart; classes = t .classes; listed = l }
+
   -- every value of the picture fits
-  module _ (good : Good S) (end : ℕ) (L : Layout) (v : Valid S end L) (short : end ≤ S .most) where
-    pub listed-below : (c o : ℕ) → c < S .classes → (o ≡ 0) ⊎ (1 ≤ times o (getD (L .lists) c [])) → o ≤ end
-    listed-below c o h (inl e) = omega arith
-    listed-below c o h (inr e) = rw (v .fills) at (item-below c o (start S) (L .blocks) (rw (v .listed c o h) at e))
+  module _ (good : Good S) (end : ℕ) (L : Layout) (v : Tiled S end L) (short : end ≤ S .most) where
+    pub listed-below : (c o : ℕ) → (o ≡ 0) ⊎ (1 ≤ times o (getD (L .lists) c [])) → o ≤ end
+    listed-below c o (inl e) = omega arith
+    listed-below c o (inr e) = v .below c o e
 
     fit-slots : (c p : ℕ) (ss : List Slot) → c < S .classes → AllWithin c ss → Fit (S .word) (slotWords S c (getD (L .lists) c []) p ss)
     unfolding Fit slotWords header AllWithin
     fit-slots c p [] h a = tt
-    fit-slots c p (idle ∷ ss) h a = (omega (arith, good .fits end short, listed-below c (nextOf (offsetOf S p) (getD (L .lists) c [])) h (next-of (offsetOf S p) (getD (L .lists) c []))), fit-slots c (p + itemSize S c) ss h (a .1))
+    fit-slots c p (idle ∷ ss) h a = (omega (arith, good .fits end short, listed-below c (nextOf (offsetOf S p) (getD (L .lists) c [])) (next-of (offsetOf S p) (getD (L .lists) c []))), fit-slots c (p + itemSize S c) ss h (a .1))
     fit-slots c p (held n ∷ ss) h a = (held-fits S good c n h (a .0), fit-slots c (p + itemSize S c) ss h (a .1))
 
     fit-use : (p : ℕ) (u : Use) → AllowedUse S u → p + useSize S u ≤ end → Fit (S .word) (useWords S (L .lists) p u)
@@ -123,7 +136,7 @@ module _ (S : Shape) where
                   omega (arith, good .fits end short),
                   fit-append (S .word) (headWords S (index S) (L .lists) ++ record { at = start S - S .word; is = S .word * S .classes + tags S + 3 } ∷ []) (blockWords S (L .lists) (start S) 0 0 (L .blocks))
                       (fit-append (S .word) (headWords S (index S) (L .lists)) (record { at = start S - S .word; is = S .word * S .classes + tags S + 3 } ∷ [])
-                      (fit-heads (index S) (L .lists) (λ c h. listed-below c (headOf (getD (L .lists) c [])) (rw (v .classes) at h) (head-of (getD (L .lists) c []))))
+                      (fit-heads (index S) (L .lists) (λ c h. listed-below c (headOf (getD (L .lists) c [])) (head-of (getD (L .lists) c []))))
                       (omega (arith, good .fits end short)))
                       (fit-blocks (start S) 0 0 (L .blocks) (v .allowed) (omega (arith, good .fits end short)) (omega (arith, good .fits end short)) (omega (arith, good .fits end short))),
                 ),
@@ -136,18 +149,25 @@ module _ (S : Shape) where
     unfolding words front
     rise-words = rw (v .fills) at (rise-front S end (L .lists) (L .blocks) 0 (v .classes) (v .allowed))
 
+  -- drawn over bytes it is shown by them, and the magic number stays
+  module _ (good : Good S) (b : List ℕ) (L : Layout) (v : Tiled S (endOf (length b)) L) (short : length b ≤ S .most) where
+    rises : Rise (S .word) 8 (words S (endOf (length b)) L) (endOf (length b))
+    rises = rise-words good (endOf (length b)) L v (omega arith)
+
+    pub drawn-magic : wordAt 8 (draw (S .word) (words S (endOf (length b)) L) b) 0 ≡ wordAt 8 b 0
+    drawn-magic =
+        let ws = words S (endOf (length b)) L in
+        word-agree 8 (draw (S .word) ws b) b 0 (λ i k l. draw-out (S .word) ws b i (rise-outside (S .word) 8 ws (endOf (length b)) i rises l))
+
+    pub drawn-shown : Shows (S .word) (draw (S .word) (words S (endOf (length b)) L) b) (words S (endOf (length b)) L)
+    drawn-shown = draw-shows (S .word) 8 (words S (endOf (length b)) L) (endOf (length b)) b rises (omega arith) (fit-words good (endOf (length b)) L v (omega arith))
+
   -- THE LAW: a valid layout drawn over the bytes of a heap is that heap's layout
   pub drawn-here : Good S → (b : List ℕ) (L : Layout) → wordAt 8 b 0 ≡ S .magic → Valid S (endOf (length b)) L → length b ≤ S .most
       → Here S (draw (S .word) (words S (endOf (length b)) L) b) L
   drawn-here good b L m v r =
-      let ws = words S (endOf (length b)) L in
-      let e = length-draw (S .word) ws b in
-      let rise = rise-words good (endOf (length b)) L v (omega arith) in
-      record {
-        magic = word-agree 8 (draw (S .word) ws b) b 0 (λ i k l. draw-out (S .word) ws b i (rise-outside (S .word) 8 ws (endOf (length b)) i rise l)) ∙ m;
-        valid = rw e v;
-        shown = rw e (draw-shows (S .word) 8 ws (endOf (length b)) b rise (omega arith) (fit-words good (endOf (length b)) L v (omega arith)));
-      }
+      let e = length-draw (S .word) (words S (endOf (length b)) L) b in
+      record { magic = drawn-magic good b L (tiled v) r ∙ m; valid = rw e v; shown = rw e (drawn-shown good b L (tiled v) r) }
 
 -- one that the bytes have already, drawn again, changes nothing
 pub drawn-same : (S : Shape) (b : List ℕ) (L : Layout) → Here S b L → Bytes b → b ≡ draw (S .word) (words S (endOf (length b)) L) b

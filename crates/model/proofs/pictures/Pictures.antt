@@ -8,7 +8,7 @@ use native.Mathlib.Decide.{decLt, decLe}
 use lib.ListN.{length, getD}
 use lib.Seq.{ext-getD}
 use Rattle.words.specs.Word.{wordAt, put, Bytes}
-use Rattle.words.proofs.WordLaws.{length-put, put-out, put-in, word-same, word-other, word-agree, bytes-put}
+use Rattle.words.proofs.WordLaws.{length-put, put-out, put-same, put-in, word-same, word-other, word-agree, bytes-put}
 use Rattle.model.specs.Picture.{Word, Shows, draw}
 use Rattle.model.specs.Live.{_∈_}
 
@@ -120,6 +120,24 @@ module _ (w : ℕ) where
   unfolding draw Outside
   draw-out [] b i h = refl
   draw-out (x ∷ xs) b i h = draw-out xs (put w b (x .at) (x .is)) i (h .1) ∙ put-out w b (x .at) (x .is) i (h .0)
+
+  -- bytes that agree outside it agree once it is drawn; so drawn again it changes nothing
+  draw-agree : (ws : List Word) (b c : List ℕ) (i : ℕ) → length c ≡ length b → i < length b → (Outside w i ws → getD c i 0 ≡ getD b i 0) → getD (draw w ws c) i 0 ≡ getD (draw w ws b) i 0
+  unfolding draw Outside
+  draw-agree [] b c i e l h = h tt
+  draw-agree (x ∷ xs) b c i e l h =
+      draw-agree xs (put w b (x .at) (x .is)) (put w c (x .at) (x .is)) i (length-put w c (x .at) (x .is) ∙ e ∙ sym (length-put w b (x .at) (x .is))) (omega (arith, l, length-put w b (x .at) (x .is)))
+      (λ o. at o (decLe (x .at) i) (decLt i (x .at + w)))
+    where
+      at : Outside w i xs → Dec (x .at ≤ i) → Dec (i < x .at + w) → getD (put w c (x .at) (x .is)) i 0 ≡ getD (put w b (x .at) (x .is)) i 0
+      at o (yes m) (yes n) = put-same w b c (x .at) (x .is) i e l m n
+      at o (yes m) (no n) = put-out w c (x .at) (x .is) i (λ _ q. n q) ∙ h ((λ _ q. n q), o) ∙ sym (put-out w b (x .at) (x .is) i (λ _ q. n q))
+      at o (no m) d = put-out w c (x .at) (x .is) i (λ q _. m q) ∙ h ((λ q _. m q), o) ∙ sym (put-out w b (x .at) (x .is) i (λ q _. m q))
+
+  pub draw-twice : (ws : List Word) (b : List ℕ) → draw w ws (draw w ws b) ≡ draw w ws b
+  draw-twice ws b =
+      ext-getD 0 (draw w ws (draw w ws b)) (draw w ws b) (length-draw ws (draw w ws b))
+      (λ i l. draw-agree ws b (draw w ws b) i (length-draw ws b) (omega (arith, l, length-draw ws b, length-draw ws (draw w ws b))) (draw-out ws b i))
 
   -- a picture whose words are apart, within the bytes and fit is shown once it is drawn
   pub draw-shows : (lo : ℕ) (ws : List Word) (hi : ℕ) (b : List ℕ) → Rise w lo ws hi → hi ≤ length b → Fit w ws → Shows w (draw w ws b) ws

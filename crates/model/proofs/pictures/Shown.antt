@@ -62,19 +62,26 @@ module _ (S : Shape) (b : List ℕ) where
         go (yes i) r = use-read c o p u h (shows-left (S .word) b (useWords S ls p u) (blockWords S ls (p + useSize S u) prev 0 bs) s) i
         go (no n) r = r (omega (arith, times-append o (idleIn S c p (used u)) (idleItems S c (p + useSize S u) bs)))
 
+  pub blocks-in : (end : ℕ) (L : Layout) → Shows (S .word) b (words S end L) → Shows (S .word) b (blockWords S (L .lists) (start S) 0 0 (L .blocks))
+  unfolding words fixedLow Shows
+  blocks-in end L s = shows-right (S .word) b (fixedHigh S end (L .lists)) (blockWords S (L .lists) (start S) 0 0 (L .blocks)) (s .1 .1 .1)
+
+  -- the head of class c
+  pub head-in : (end : ℕ) (L : Layout) → Shows (S .word) b (words S end L) → length (L .lists) ≡ S .classes → (c : ℕ) → c < S .classes → wordAt (S .word) b (index S + S .word * c) ≡ headOf (getD (L .lists) c [])
+  unfolding words fixedLow fixedHigh Shows
+  head-in end L s n c l =
+      let t : List Word = record { at = start S - S .word; is = S .word * S .classes + tags S + 3 } ∷ [] in
+      heads-read (index S) c (L .lists) (omega (arith, n))
+      (shows-left (S .word) b (headWords S (index S) (L .lists)) t
+      (shows-left (S .word) b (headWords S (index S) (L .lists) ++ t) (blockWords S (L .lists) (start S) 0 0 (L .blocks)) (s .1 .1 .1 .1 .1)))
+
   module _ (L : Layout) (h : Here S b L) where
     pub blocks-shown : Shows (S .word) b (blockWords S (L .lists) (start S) 0 0 (L .blocks))
-    unfolding words fixedLow Shows
-    blocks-shown = shows-right (S .word) b (fixedHigh S (endOf (length b)) (L .lists)) (blockWords S (L .lists) (start S) 0 0 (L .blocks)) (h .shown .1 .1 .1)
+    blocks-shown = blocks-in (endOf (length b)) L (h .shown)
 
     -- the head of class c, and a free item's header
     pub head-read : (c : ℕ) → c < S .classes → wordAt (S .word) b (index S + S .word * c) ≡ headOf (getD (L .lists) c [])
-    unfolding words fixedLow fixedHigh Shows
-    head-read c l =
-        let t : List Word = record { at = start S - S .word; is = S .word * S .classes + tags S + 3 } ∷ [] in
-        heads-read (index S) c (L .lists) (omega (arith, h .valid .classes))
-        (shows-left (S .word) b (headWords S (index S) (L .lists)) t
-        (shows-left (S .word) b (headWords S (index S) (L .lists) ++ t) (blockWords S (L .lists) (start S) 0 0 (L .blocks)) (h .shown .1 .1 .1 .1 .1)))
+    head-read = head-in (endOf (length b)) L (h .shown) (h .valid .classes)
 
     pub item-read : (c o : ℕ) → 1 ≤ times o (idleItems S c (start S) (L .blocks)) → wordAt (S .word) b (itemAt S o) ≡ 16 * nextOf o (getD (L .lists) c []) + 4 * c + 1
     item-read c o i = blocks-read (L .lists) c o (start S) 0 (L .blocks) (omega arith) blocks-shown i

@@ -1,5 +1,5 @@
 -- Document 01's figures and 02 (iv)'s, computed from the definitions: one table, one statement. At 8 bytes a word only, as the figures are.
-use Prim.Native.Nat.{ℕ, _+_, _*_, _≤_, _<_}
+use Prim.Native.Nat.{ℕ, zero, suc, _+_, _*_, _≤_, _<_}
 use native.Mathlib.Nat.{div-add-mod', mod-lt}
 use native.Mathlib.Omega.{arith}
 use mathlib.Core.Path.{_≡_, refl}
@@ -10,12 +10,13 @@ use Rattle.model.specs.Picture.{Word}
 use Rattle.model.specs.Shape.{wide, start, leastFree, itemSize, endOf}
 use Rattle.model.proofs.Sizes.{eight, page-items-bound}
 use Rattle.model.specs.Layout.{Layout, headOf, nextOf, useSize, sizeOf, ends, firstFree, header, slotWords, useWords, own, blockWords, headWords, fixedLow, fixedHigh, words}
-use Rattle.model.specs.Sound.{idleSlots}
+use Rattle.model.specs.Sound.{idleSlots, idleIn}
 use Rattle.model.specs.Rules.{fit, before, inFront, cut, slotTo, useTo, itemTo, fromList, fromPage, anItem, aBlock, allocate, inSlots, findFrom, find, freed, shownOf, shrunk, grown, reshaped, renewed, stays, fresh}
 use Rattle.model.specs.Reading.{total, greatest, heldIn, ofBlock, counted}
+use Rattle.model.specs.Sweeping.{emptyPage, idleWith, relinked, relinkedFrom}
 use Rattle.model.specs.Calls.{staying, moving}
-use Rattle.model.specs.Promises.{Call, allocating, freeing, resizing, resizingBy}
-use Rattle.model.proofs.rules.OnLayouts.{resizedOn, resizedByOn, doing}
+use Rattle.model.specs.Promises.{Call, allocating, freeing, resizing, resizingBy, sweeping}
+use Rattle.model.proofs.rules.OnLayouts.{resizedOn, resizedByOn, recovered, doing}
 
 -- the value of a picture's word at a position; 9,999,999 where it names none
 wordIn : ℕ → List Word → ℕ
@@ -71,6 +72,17 @@ O = renewed wide 0 592 B
 K : Layout
 K = after (allocating 30) (freshOf 4800)
 
+-- (ii): n calls one after the other, each from a number that is `by` more than the one before; two pages of the largest items, with 1 and 2 live; and the same with none live in the first
+inTurn : ℕ → (ℕ → Call) → ℕ → ℕ → Layout → Layout
+inTurn zero q a by L = L
+inTurn (suc n) q a by L = inTurn n q (a + by) by (after (q a) L)
+
+Q : Layout
+Q = inTurn 15 freeing 328 264 (inTurn 18 allocating 256 0 H)
+
+Z : Layout
+Z = after (freeing 4288) (after sweeping Q)
+
 -- how many bytes a look-up shows
 shown : ℕ → Layout → ℕ
 shown a L = shownOf wide (find wide a L)
@@ -95,6 +107,9 @@ computed =
     ∷ gives (resizingBy moving 672 15) E ∷ shown 696 (after (resizingBy moving 672 15) E)
     ∷ shown 648 O ∷ word 640 O ∷ shown 648 (after (resizingBy staying 648 16) O) ∷ word 640 (after (resizingBy staying 648 16) O)
     ∷ gives (resizing 328 5) K ∷ shown 328 (after (resizing 328 5) K) ∷ shown 320 A
+    ∷ gives sweeping D ∷ word 24 (after sweeping D) ∷ word 632 (after sweeping D) ∷ word 56 (after sweeping D) ∷ gives sweeping (after sweeping D)
+    ∷ gives (allocating 256) Q ∷ gives sweeping Q ∷ gives (allocating 256) (after sweeping Q)
+    ∷ gives sweeping Z ∷ word 24 (after sweeping Z) ∷ word 312 (after sweeping Z) ∷ gives sweeping (after sweeping Z)
     ∷ counted (C .blocks) .freeBytes ∷ counted (C .blocks) .freeBlocks ∷ counted (C .blocks) .largestFree ∷ counted (C .blocks) .variables ∷ counted (C .blocks) .pages ∷ counted (C .blocks) .items
     ∷ []
 
@@ -118,11 +133,14 @@ expected =
     ∷ 696 ∷ 15
     ∷ 16 ∷ 7 ∷ 16 ∷ 2055
     ∷ 328 ∷ 30 ∷ 304
+    ∷ 1 ∷ 632 ∷ 9368 ∷ 0 ∷ 0
+    ∷ 4024 ∷ 0 ∷ 5096
+    ∷ 1 ∷ 312 ∷ 4240 ∷ 0
     ∷ 5568 ∷ 2 ∷ 5248 ∷ 0 ∷ 1 ∷ 1
     ∷ []
 
 figures : computed ≡ expected
-unfolding computed expected wordIn word gives says after shown freshOf H A B C D E K O R P resizedOn resizedByOn doing headOf nextOf useSize sizeOf ends firstFree header slotWords useWords own blockWords headWords fixedLow fixedHigh words idleSlots fit before inFront cut slotTo useTo itemTo fromList fromPage anItem aBlock allocate inSlots findFrom freed shrunk grown reshaped stays total greatest heldIn ofBlock counted
+unfolding computed expected wordIn word gives says after shown freshOf inTurn H A B C D E K O R P Q Z emptyPage idleIn idleWith relinked relinkedFrom recovered resizedOn resizedByOn doing headOf nextOf useSize sizeOf ends firstFree header slotWords useWords own blockWords headWords fixedLow fixedHigh words idleSlots fit before inFront cut slotTo useTo itemTo fromList fromPage anItem aBlock allocate inSlots findFrom freed shrunk grown reshaped stays total greatest heldIn ofBlock counted
 figures = refl
 
 -- a page's items take more than 4,096 and at most 4,360 bytes

@@ -1,14 +1,15 @@
 -- What a call on a sound heap answers, and the layout that it leaves: the rules of Calls on layouts alone, to compute with.
-use Prim.Native.Nat.{ℕ}
+use Prim.Native.Nat.{ℕ, zero, suc}
 use mathlib.Core.Bool.{cond, _&&_}
 use mathlib.Core.Option.{Option, none, some}
 use lib.Dec.{eqb, leb}
 use Rattle.model.specs.Shape.{Shape}
 use Rattle.model.specs.Layout.{Layout}
 use Rattle.model.specs.Rules.{Made, allocate, find, capacity, stays}
+use Rattle.model.specs.Sweeping.{empties, emptyPage, pageFreed, linkedAnew}
 use Rattle.model.specs.Refusals.{badSize, notLive, noRoom, alreadyOpened}
 use Rattle.model.specs.Calls.{Way, staying, moving, keeping, found, without}
-use Rattle.model.specs.Promises.{Call, initialising, checking, allocating, freeing, resizing, resizingBy}
+use Rattle.model.specs.Promises.{Call, initialising, checking, allocating, freeing, resizing, resizingBy, sweeping}
 
 pub record Done : Type 0 where
   pub refusal : ℕ
@@ -50,6 +51,15 @@ module _ (S : Shape) where
   unfoldable pub resizedOn : ℕ → ℕ → Layout → Done
   resizedOn a n L = found S (find S a L) (refuse notLive L) (orNextOn (oneWayOn staying a n L) (orNextOn (oneWayOn moving a n L) (oneWayOn keeping a n L)))
 
+  -- k pages with no live item given back
+  unfoldable pub recovered : ℕ → Layout → Layout
+  recovered zero L = L
+  recovered (suc k) L = recovered k (pageFreed S (emptyPage S (L .blocks)) L)
+
+  -- the layout that a sweep leaves
+  abbrev pub sweptLayout : Layout → Layout
+  sweptLayout L = linkedAnew S (recovered (empties (L .blocks)) L)
+
   unfoldable pub doing : Call → Layout → Done
   doing initialising L = refuse alreadyOpened L
   doing checking L = grant 0 L
@@ -57,3 +67,4 @@ module _ (S : Shape) where
   doing (freeing a) L = found S (find S a L) (refuse notLive L) (grant 0 (without S a L))
   doing (resizing a n) L = sizedOn n L (resizedOn a n L)
   doing (resizingBy v a n) L = sizedOn n L (resizedByOn v a n L)
+  doing sweeping L = grant (empties (L .blocks)) (sweptLayout L)

@@ -1,4 +1,4 @@
--- Two heaps, one longer: their layouts are twins where they differ in their last block alone. Allocations and frees keep them so, with the same answers.
+-- Two heaps, one longer: their layouts are twins where they differ in their last block alone. Allocations and frees keep them so, with the same answers; TwinCalls has every call.
 use Prim.Native.Nat.{ℕ, _+_, _-_, _≤_}
 use mathlib.Core.Path.{_≡_, refl, ap, ap₂, subst, _∙_}
 use mathlib.Core.Bool.{Bool, true, false, cond, _&&_}
@@ -14,7 +14,7 @@ use Rattle.model.specs.Layout.{Slot, idle, held, Use, variable, page, Bl
 use Rattle.model.specs.Sound.{idleSlots}
 use Rattle.model.specs.Rules.{Spot, after, fit, before, inFront, released, Found, block, thing, nothing, behind, orElse, Made, cut, placed, slotTo, useTo, itemTo, pushed, paged, fromList, fromPage, anItem, aBlock, allocate, inSlots, findFrom, find, freed, fresh}
 use Rattle.model.specs.Refusals.{noRoom}
-use Rattle.model.specs.Promises.{Call, initialising, checking, allocating, freeing, resizing, resizingBy, Plain}
+use Rattle.model.specs.Promises.{allocating, freeing}
 use Rattle.model.proofs.items.Items.{size-useTo}
 use Rattle.model.proofs.items.Paged.{pageOf, page-size}
 use Rattle.model.proofs.rules.OnLayouts.{Done, doing}
@@ -175,7 +175,7 @@ module _ (S : Shape) where
   Founds nothing (thing p d m) = ⊥
   Founds nothing nothing = Unit {0}
 
-  before-twins : (b : Block) {bs cs : List Block} → Twins bs cs → Twins (before b bs) (before b cs)
+  pub before-twins : (b : Block) {bs cs : List Block} → Twins bs cs → Twins (before b bs) (before b cs)
   unfolding before
   before-twins (used u) w = both (used u) w
   before-twins (free s) (both (free t) w) = both (free (s + t)) w
@@ -249,13 +249,13 @@ module _ (S : Shape) where
   find-twins a p (part r (pages c i j ss) k) =
       or-twins (inSlots S a c (p + S .word) ss) nothing (inSlots S a c (p + S .word) ss) nothing (slots-twins a c (p + S .word) ss) (unfold Founds in tt)
 
-  -- THE LAW: the same call on twins answers the same and leaves twins, where the shorter heap does not say "no room"
+  -- two calls answered the same and left twins
   pub record SameDone (d e : Done) : Type 0 where
     pub refusal : d .refusal ≡ e .refusal
     pub address : d .address ≡ e .address
     pub layouts : TwinLayouts (d .layout) (e .layout)
 
-  allocating-twins : (n : ℕ) {L M : Layout} → TwinLayouts L M → (doing S (allocating n) L .refusal ≡ noRoom → ⊥) → SameDone (doing S (allocating n) L) (doing S (allocating n) M)
+  pub allocating-twins : (n : ℕ) {L M : Layout} → TwinLayouts L M → (doing S (allocating n) L .refusal ≡ noRoom → ⊥) → SameDone (doing S (allocating n) L) (doing S (allocating n) M)
   unfolding doing Mades
   allocating-twins n {L} {M} w room = go (leb 1 n && leb n (S .most)) refl (allocate S n L) (allocate S n M) refl refl (allocate-twins n w)
     where
@@ -272,7 +272,7 @@ module _ (S : Shape) where
         lists = ap (λ (ls : List (List ℕ)). set ls c (o ∷ getD ls c [])) (w .lists) ∙ ap₂ (λ (x y : ℕ). set (M .lists) y (x ∷ getD (M .lists) y [])) e f;
       }
 
-  freeing-twins : (a : ℕ) {L M : Layout} → TwinLayouts L M → SameDone (doing S (freeing a) L) (doing S (freeing a) M)
+  pub freeing-twins : (a : ℕ) {L M : Layout} → TwinLayouts L M → SameDone (doing S (freeing a) L) (doing S (freeing a) M)
   unfolding doing freed Founds
   freeing-twins a {L} {M} w = go (find S a L) (find S a M) refl refl (find-twins a (start S) (w .blocks))
     where
@@ -286,11 +286,3 @@ module _ (S : Shape) where
       go nothing (block u) e f h = absurd h
       go nothing (thing p d m) e f h = absurd h
       go nothing nothing e f h = rw (e, f) (record { refusal = refl; address = refl; layouts = w })
-
-  pub doing-twins : (q : Call) → Plain S q → {L M : Layout} → TwinLayouts L M → (doing S q L .refusal ≡ noRoom → ⊥) → SameDone (doing S q L) (doing S q M)
-  doing-twins initialising h w r = absurd h
-  doing-twins checking h w r = absurd h
-  doing-twins (allocating n) h w r = allocating-twins n w r
-  doing-twins (freeing a) h w r = freeing-twins a w
-  doing-twins (resizing a n) h w r = absurd h
-  doing-twins (resizingBy v a n) h w r = absurd h

@@ -7,7 +7,8 @@ use lib.ListN.{length}
 use Rattle.words.specs.Width.{Width}
 use Rattle.model.specs.Shape.{shape, endOf, start}
 use Rattle.model.specs.Layout.{Block, Layout, sizeOf, ends}
-use Rattle.model.specs.Sound.{AllAllowed, Here}
+use Rattle.model.specs.Sound.{AllAllowed}
+use Rattle.model.specs.inner.Laid.{Laid}
 use Rattle.model.proofs.blocks.Blocks.{ends-append, le-ends, allowed-left, allowed-right}
 use Rattle.model.specs.inner.Walks.{lastFree, endsFree, Standing, Passed, Gone}
 use Rattle.model.proofs.walks.Standing.{sizes}
@@ -29,16 +30,16 @@ module _ {w : ℕ} {L : Layout} {p : ℕ} {pre rest : List Block} (s : Passed w 
         begins = ends-append (shape w) (start (shape w)) pre (x ∷ []) ∙ ap (λ (y : ℕ). y + sizeOf (shape w) x) (s .begins);
       }
 
-  module _ (wd : Width w) {b : List ℕ} (h : Here (shape w) b L) where
+  module _ (wd : Width w) {b : List ℕ} (h : Laid w b L) where
     pub passed-all : AllAllowed (shape w) (pre ++ rest)
-    passed-all = subst (λ (l : List Block). AllAllowed (shape w) l) (s .blocks) (h .valid .allowed)
+    passed-all = subst (λ (l : List Block). AllAllowed (shape w) l) (s .blocks) (h .tiled .allowed)
 
     pub passed-allowed : AllAllowed (shape w) pre
     passed-allowed = allowed-left (shape w) pre rest passed-all
 
     passed-fills : ends (shape w) p rest ≡ endOf (length b)
     passed-fills =
-        ap (λ (y : ℕ). ends (shape w) y rest) (sym (s .begins)) ∙ sym (ends-append (shape w) (start (shape w)) pre rest) ∙ ap (λ (l : List Block). ends (shape w) (start (shape w)) l) (sym (s .blocks)) ∙ h .valid .fills
+        ap (λ (y : ℕ). ends (shape w) y rest) (sym (s .begins)) ∙ sym (ends-append (shape w) (start (shape w)) pre rest) ∙ ap (λ (l : List Block). ends (shape w) (start (shape w)) l) (sym (s .blocks)) ∙ h .tiled .fills
 
     -- at the end all blocks are passed
     pub passed-none : endOf (length b) ≤ p → rest ≡ []
@@ -56,7 +57,7 @@ module _ {A : Type 0} {w : ℕ} (f : List Block → A) where
   pub gone-start : (L : Layout) (v : A) → v ≡ f [] → Gone w f L (start (shape w)) v
   gone-start L v e = record { pre = []; rest = L .blocks; passed = pass-start w L; so-far = e }
 
-  module _ (wd : Width w) {b : List ℕ} {L : Layout} (h : Here (shape w) b L) {p : ℕ} {v : A} (g : Gone w f L p v) where
+  module _ (wd : Width w) {b : List ℕ} {L : Layout} (h : Laid w b L) {p : ℕ} {v : A} (g : Gone w f L p v) where
     pub gone-on : (x : Block) (after : List Block) → g .rest ≡ x ∷ after → (q : ℕ) → sizeOf (shape w) x ≡ q → (u : A) → u ≡ f (g .pre ++ (x ∷ [])) → Gone w f L (p + q) u
     gone-on x after e q z u k =
         record {

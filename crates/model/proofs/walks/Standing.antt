@@ -1,4 +1,4 @@
--- A walk over a sound heap's blocks: where it stands, and what the tag there says.
+-- A walk over a heap's blocks: where it stands, and what the tag there says.
 use Prim.Native.Nat.{ℕ, _+_, _*_, _/_, _%_, _≤_, _<_}
 use mathlib.Core.Path.{_≡_, refl, sym, ap, subst, _∙_}
 use mathlib.Core.List.{List, [], _∷_, _++_, append-assoc}
@@ -9,12 +9,13 @@ use Rattle.words.specs.Width.{Width}
 use Rattle.model.specs.Shape.{shape, tags, itemSize, endOf, start}
 use Rattle.model.specs.Picture.{Shows}
 use Rattle.model.specs.Layout.{Slot, variable, page, Block, free, used, Layout, ifFree, useSize, sizeOf, ends, firstFree, useWords, own, blockWords}
-use Rattle.model.specs.Sound.{Allowed, AllowedUse, AllAllowed, Here}
+use Rattle.model.specs.Sound.{Allowed, AllowedUse, AllAllowed}
 use Rattle.model.proofs.pictures.Pictures.{shows-left, shows-right}
 use Rattle.model.proofs.blocks.Blocks.{ends-append, le-ends, last-append, words-append, allowed-right}
 use Rattle.model.specs.inner.Walks.{lastFree, endsFree, Standing}
+use Rattle.model.specs.inner.Laid.{Laid}
 use Rattle.model.proofs.blocks.Valid.{ends-free-append}
-use Rattle.model.proofs.pictures.Shown.{blocks-shown}
+use Rattle.model.proofs.pictures.Shown.{blocks-in}
 use Rattle.model.proofs.Sizes.{page-least, page-eight}
 
 pub stand-start : (w : ℕ) (L : Layout) → Standing w L (start (shape w)) 0 0
@@ -52,18 +53,18 @@ module _ {w : ℕ} (wd : Width w) where
   tag-shown b ls p prev next (used (variable s)) h = h .0
   tag-shown b ls p prev next (used (page c k ss)) h = h .0
 
-  module _ {b : List ℕ} {L : Layout} (h : Here (shape w) b L) {p prev left : ℕ} (s : Standing w L p prev left) where
+  module _ {b : List ℕ} {L : Layout} (h : Laid w b L) {p prev left : ℕ} (s : Standing w L p prev left) where
     pub met : (x : Block) (after : List Block) → s .rest ≡ x ∷ after → Met w b L p prev x after
     unfolding blockWords ends AllAllowed
     met x after e =
         let blocks : L .blocks ≡ s .pre ++ (x ∷ after) = s .blocks ∙ ap (λ (l : List Block). s .pre ++ l) e in
-        let all : AllAllowed (shape w) (s .pre ++ (x ∷ after)) = subst (λ (l : List Block). AllAllowed (shape w) l) blocks (h .valid .allowed) in
+        let all : AllAllowed (shape w) (s .pre ++ (x ∷ after)) = subst (λ (l : List Block). AllAllowed (shape w) l) blocks (h .tiled .allowed) in
         let a = allowed-right (shape w) (s .pre) (x ∷ after) all .0 in
-        let shown : Shows w b (blockWords (shape w) (L .lists) (start (shape w)) 0 0 (s .pre ++ (x ∷ after))) = subst (λ (l : List Block). Shows w b (blockWords (shape w) (L .lists) (start (shape w)) 0 0 l)) blocks (blocks-shown (shape w) b L h) in
+        let shown : Shows w b (blockWords (shape w) (L .lists) (start (shape w)) 0 0 (s .pre ++ (x ∷ after))) = subst (λ (l : List Block). Shows w b (blockWords (shape w) (L .lists) (start (shape w)) 0 0 l)) blocks (blocks-in (shape w) b (endOf (length b)) L (h .shown)) in
         let both = rw (words-append (shape w) (L .lists) (start (shape w)) 0 0 (s .pre) (x ∷ after), s .begins, s .before) at shown in
         let here = shows-right w b (blockWords (shape w) (L .lists) (start (shape w)) 0 (firstFree (shape w) p (x ∷ after) 0) (s .pre)) (blockWords (shape w) (L .lists) p prev 0 (x ∷ after)) both in
         let own-shown = shows-left w b (own (shape w) (L .lists) p prev (firstFree (shape w) (p + sizeOf (shape w) x) after 0) x) (blockWords (shape w) (L .lists) (p + sizeOf (shape w) x) (ifFree x p prev) 0 after) here in
-        let fills : ends (shape w) (start (shape w)) (s .pre ++ (x ∷ after)) ≡ endOf (length b) = subst (λ (l : List Block). ends (shape w) (start (shape w)) l ≡ endOf (length b)) blocks (h .valid .fills) in
+        let fills : ends (shape w) (start (shape w)) (s .pre ++ (x ∷ after)) ≡ endOf (length b) = subst (λ (l : List Block). ends (shape w) (start (shape w)) l ≡ endOf (length b)) blocks (h .tiled .fills) in
         let f : ends (shape w) (p + sizeOf (shape w) x) after ≡ endOf (length b) = rw (ends-append (shape w) (start (shape w)) (s .pre) (x ∷ after), s .begins) at fills in
         record {
           allowed = a;
@@ -88,7 +89,7 @@ module _ {w : ℕ} (wd : Width w) where
         go : (r : List Block) → s .rest ≡ r → Block-there
         go [] e =
             let blocks : L .blocks ≡ s .pre ++ [] = s .blocks ∙ ap (λ (l : List Block). s .pre ++ l) e in
-            let fills : ends (shape w) (start (shape w)) (s .pre ++ []) ≡ endOf (length b) = subst (λ (l : List Block). ends (shape w) (start (shape w)) l ≡ endOf (length b)) blocks (h .valid .fills) in
+            let fills : ends (shape w) (start (shape w)) (s .pre ++ []) ≡ endOf (length b) = subst (λ (l : List Block). ends (shape w) (start (shape w)) l ≡ endOf (length b)) blocks (h .tiled .fills) in
             let f : p ≡ endOf (length b) = rw (ends-append (shape w) (start (shape w)) (s .pre) [], s .begins) at fills in
             absurd (omega arith)
         go (x ∷ after) e = record { block = x; after = after; rest = e; met = met x after e }

@@ -1,5 +1,5 @@
 use Rattle.reshaping.proofs.ReshapeLaws.{behind-room, reach-above, reached}
-use Rattle.releasing.proofs.ReleaseLaws.{around, right-room}
+use Rattle.releasing.proofs.ReleaseLaws.{around, right-room, live-used}
 use native.Mathlib.Omega.{arith}
 use mathlib.Core.Path.{refl}
 use Rattle.reshaping.proofs.reach.Statement.{statement}
@@ -12,16 +12,16 @@ use Rattle.links.proofs.link_at.Reads as link-at-reads
 use Rattle.words.proofs.word.Reads as word-reads
 
 link-at-requires : tie.Need-link-at-requires
-link-at-requires c κs = omega (arith, around _ _ (c .before .before .before .pre))
+link-at-requires c κs = omega (arith, around _ _ (live-used (c .before .before .before .pre)))
 
 word-requires : tie.Need-word-requires
-word-requires c κs = omega (arith, around _ _ (c .before .before .before .before .pre), c .link-at .ensures)
+word-requires c κs = omega (arith, around _ _ (live-used (c .before .before .before .before .pre)), c .link-at .ensures)
 
 add-t11 : tie.Need-add-t11
-add-t11 c = omega (arith, around _ _ (c .before .before .before .before .before .before .before .pre))
+add-t11 c = omega (arith, around _ _ (live-used (c .before .before .before .before .before .before .before .pre)))
 
 right-edge-requires : tie.Need-right-edge-requires
-right-edge-requires c κs = right-room _ _ (c .before .before .before .before .before .before .before .pre) _ (rw (c .before .before .before .link-at .ensures) at (c .before .before .word .ensures))
+right-edge-requires c κs = right-room _ _ (live-used (c .before .before .before .before .before .before .before .pre)) _ (rw (c .before .before .before .link-at .ensures) at (c .before .before .word .ensures))
 
 back-at-requires : tie.Need-back-at-requires
 back-at-requires c κs = behind-room _ _ (c .before .before .before .before .before .before .before .before .before .pre) _ _ (c .before .before .before .before .before .link-at .ensures) (c .before .before .before .before .word .ensures) _ _ (c .before .right-edge .ensures .0) (c .before .right-edge .ensures .1)

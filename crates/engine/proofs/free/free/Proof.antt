@@ -1,4 +1,4 @@
-use Rattle.engine.proofs.FreeLaws.{free-none, item-live, free-item, block-live, free-block}
+use Rattle.engine.proofs.FreeLaws.{free-none, item-in, free-item, block-used, free-block}
 use borrow.Author.Needs.{needs}
 use Rattle.engine.proofs.free.free.Statement.{statement}
 use Rattle.engine.proofs.free.free.Tie as tie
@@ -18,13 +18,13 @@ enum-known-x : tie.Need-enum-known-x
 enum-known-x c = search needs
 
 give-requires : tie.Need-give-requires
-give-requires c κs = item-live _ _ (c .before .before .before .before .before .before .before .pre) _ (c .before .before .before .before .find .ensures) _ _ _ (c .before .before .x .given .1)
+give-requires c κs = item-in _ _ (c .before .before .before .before .before .before .before .pre) _ (c .before .before .before .before .find .ensures) _ _ _ (c .before .before .x .given .1)
 
 enum-known-x-2 : tie.Need-enum-known-x-2
 enum-known-x-2 c = search needs
 
 release-requires : tie.Need-release-requires
-release-requires c κs = block-live _ _ (c .before .before .before .before .before .before .before .pre) _ (c .before .before .before .before .find .ensures) _ (c .before .before .x2 .given .1)
+release-requires c κs = block-used _ _ (c .before .before .before .before .before .before .before .pre) _ (c .before .before .before .before .find .ensures) _ (c .before .before .x2 .given .1)
 
 same-length : tie.Need-same-length
 same-length c = search needs

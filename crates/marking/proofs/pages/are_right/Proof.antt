@@ -2,7 +2,8 @@ use mathlib.Core.Path.{sym, _∙_}
 use native.Mathlib.Omega.{arith}
 use borrow.Author.Needs.{needs}
 use borrow.Author.Tests.{not-true, not-false}
-use Rattle.marking.proofs.Rights.{RightInv, right-start, right-inside, right-again, right-no, right-done, yes-no}
+use Rattle.marking.proofs.Rights.{RightInv, right-start, right-inside, right-again, right-no, right-done}
+use Rattle.words.proofs.YesNo.{yes-no}
 use Rattle.marking.proofs.pages.are_right.Statement.{statement}
 use Rattle.marking.proofs.pages.are_right.Tie as tie
 

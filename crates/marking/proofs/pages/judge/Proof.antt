@@ -2,7 +2,7 @@ use mathlib.Core.Path.{sym, _∙_}
 use mathlib.Core.Logic.{inl, inr}
 use borrow.Author.Needs.{needs}
 use Rattle.marking.proofs.Counts.{no-count, count-no, count-same}
-use Rattle.marking.proofs.Rights.{yes-no}
+use Rattle.words.proofs.YesNo.{yes-no}
 use Rattle.marking.proofs.pages.judge.Statement.{statement}
 use Rattle.marking.proofs.pages.judge.Tie as tie
 

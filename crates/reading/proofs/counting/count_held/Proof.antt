@@ -6,7 +6,7 @@ use Rattle.reading.proofs.counting.count_held.Tie as tie
 use Rattle.reading.proofs.counting.count_held.Reads as reads
 use Rattle.reading.proofs.counting.count_held.Lts as lts
 use Rattle.model.proofs.item_size.Reads as item-size-reads
-use Rattle.reading.proofs.counting.one_if.Reads as one-if-reads
+use Rattle.model.proofs.used_in.Reads as used-in-reads
 use Rattle.words.proofs.word.Reads as word-reads
 
 abbrev Inv-loop : tie.InvT-loop
@@ -24,17 +24,14 @@ loop-holds c = held-start (c .before .before .pre .0) _ _ _ _ _ (c .before .befo
 word-requires : tie.Need-word-requires Inv-loop μ-loop
 word-requires c κs = omega (arith, held-inside (c .before .loop .inv) (c .loop-test .taken))
 
-flags-in-requires : tie.Need-flags-in-requires Inv-loop μ-loop
-flags-in-requires c κs = search needs
-
-one-if-requires : tie.Need-one-if-requires Inv-loop μ-loop
-one-if-requires c κs = search needs
+used-in-requires : tie.Need-used-in-requires Inv-loop μ-loop
+used-in-requires c κs = search needs
 
 add-held : tie.Need-add-held Inv-loop μ-loop
-add-held c = omega (arith, held-bound (held-again (c .before .before .before .before .loop .inv) (c .before .before .before .loop-test .taken) _ _ _ (c .before .before .word .ensures) (c .before .flags-in .ensures) (c .one-if .ensures)))
+add-held c = omega (arith, held-bound (held-again (c .before .before .before .loop .inv) (c .before .before .loop-test .taken) _ _ (c .before .word .ensures) (c .used-in .ensures)))
 
-add-t13 : tie.Need-add-t13 Inv-loop μ-loop
-add-t13 c = omega (arith, held-next (c .before .before .before .before .before .loop .inv) (c .before .before .before .before .loop-test .taken))
+add-t12 : tie.Need-add-t12 Inv-loop μ-loop
+add-t12 c = omega (arith, held-next (c .before .before .before .before .loop .inv) (c .before .before .before .loop-test .taken))
 
 sub-left : tie.Need-sub-left Inv-loop μ-loop
 sub-left c = search needs
@@ -43,7 +40,7 @@ loop-less : tie.Need-loop-less Inv-loop μ-loop
 loop-less c = search needs
 
 loop-again : tie.Need-loop-again Inv-loop μ-loop
-loop-again c = held-again (c .before .before .before .before .before .loop .inv) (c .before .before .before .before .loop-test .taken) _ _ _ (c .before .before .before .word .ensures) (c .before .before .flags-in .ensures) (c .before .one-if .ensures)
+loop-again c = held-again (c .before .before .before .before .loop .inv) (c .before .before .before .loop-test .taken) _ _ (c .before .before .word .ensures) (c .before .used-in .ensures)
 
 returns : tie.Need-returns Inv-loop μ-loop
 returns c = held-done (c .before .loop .inv) (c .loop-test .left)
@@ -57,10 +54,9 @@ count-held-spec =
     item-size-requires
     loop-holds
     word-requires
-    flags-in-requires
-    one-if-requires
+    used-in-requires
     add-held
-    add-t13
+    add-t12
     sub-left
     loop-less
     loop-again

@@ -1,0 +1,4 @@
+pub mod EmptyPage
+pub mod Recovered
+pub mod Relinked
+pub mod Stages
