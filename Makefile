@@ -80,15 +80,18 @@ files:
 	sed 's|@PREFIX@|$(abspath $(PREFIX))|; s|@VERSION@|$(VERSION)|' include/jagwibodu.pc.in > $(PREFIX)/lib/pkgconfig/jagwibodu.pc
 
 # The example host in C, built with what install gives; on a heap with room, and on one in which most is refused; the ward's
-# remark, shortened on a full heap; and the form editor, that asks before a record moves. The pkg-config file leads to header and
-# archive, and all are C++ too.
+# remark, shortened on a full heap; the form editor, that asks before a record moves; and the morning's start-up, of which `show`,
+# and the second program too, tell what a sweep gave back. The pkg-config file leads to header and archive, and all are C++ too.
 INSTALLED = target/installed
-EXAMPLES = console remark editor
+EXAMPLES = console remark editor morning
 example: lib
+	$(if $(BUILT),,rt check show)
 	$(MAKE) --no-print-directory files PREFIX=$(INSTALLED)
 	for name in $(EXAMPLES); do CFLAGS='-I$(INSTALLED)/include' tools/chost examples/$$name.c $(INSTALLED)/lib/libjagwibodu.a > target/$$name.out && diff examples/$$name.out target/$$name.out && cat target/$$name.out || exit 1; done
 	CFLAGS='-I$(INSTALLED)/include -DLENGTH=4500' tools/chost examples/console.c $(INSTALLED)/lib/libjagwibodu.a > target/console-small.out
 	diff examples/console-small.out target/console-small.out
+	CFLAGS='-I$(INSTALLED)/include' tools/chost examples/morning.c $(INSTALLED)/lib/libjagwibodu.a -- target/morning-before.heap target/morning-after.heap > target/morning.out
+	for when in before after; do tools/chost -r target/bin/show < target/morning-$$when.heap | diff examples/morning-$$when.out - && python3 compare/report.py target/morning-$$when.heap | diff examples/morning-$$when.out - || exit 1; done
 	if command -v pkg-config > /dev/null; then PKG_CONFIG_PATH=$(INSTALLED)/lib/pkgconfig pkg-config --cflags --libs jagwibodu | grep -q '^-I$(abspath $(INSTALLED))/include -L$(abspath $(INSTALLED))/lib -ljagwibodu *$$'; fi
 	if command -v c++ > /dev/null; then c++ -std=c++11 -Wall -Wextra -Werror -fsyntax-only -x c++ -I$(INSTALLED)/include $(EXAMPLES:%=examples/%.c); fi
 

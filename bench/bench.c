@@ -91,6 +91,10 @@ static void measure(const char *call, uint64_t address, uint64_t size)
         BOTH(jagwibodu_free(ours, length, address), twin_free(twins, length, address));
         return;
     }
+    if (!strcmp(call, "sweep")) {
+        BOTH(jagwibodu_sweep(ours, length), twin_sweep(twins, length));
+        return;
+    }
     fail("no such call");
 }
 

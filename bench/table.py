@@ -4,7 +4,8 @@
   table.py --library FILE.. [--prefix NAME] [--sizes LIST]
 
 Prints a Markdown table, how each count grows with the heap, the library's size,
-and last the worst ratio of all rows; the status is 1 if that is over the limit.
+what a sweep costs against a check and how it grows, and last the worst ratio of
+all rows; the status is 1 if one of these is over its limit.
 All that is built or fetched goes below target/. "--prefix twin_" without a
 library puts the twin on both sides.
 """
@@ -22,10 +23,12 @@ sys.dont_write_bytecode = True  # products belong below target/
 from second import CLASSES, GRANTED, LARGEST_SIZE, NO_ROOM, VARIABLE, Heap  # noqa: E402
 
 PRODUCTS = os.path.join(ROOT, "target", "bench")
-CALLS = ("initialise", "check", "allocate", "resize", "resize_in_place", "move", "free")
+CALLS = ("initialise", "check", "allocate", "resize", "resize_in_place", "move", "free", "sweep")
 SIZES = (10000, 65536, 1048576)
 KEPT, CANNOT_STAY, FULL = "it is kept for want of room", "it cannot stay", "there is no room"
-LIMIT = 1.05  # no call may take more instructions than so many times the twin's
+LIMIT, SWEEP_TWIN_LIMIT = 1.05, 1.25  # no call may take more instructions than so many times the twin's; and no sweep
+SWEEP_LIMIT = 2.5  # a sweep of a heap with half its pages empty takes at most so many times what the check of it takes
+SWEEP_GROWTH_LIMIT, SWEEP_GROWS = 19, (65536, 1048576)  # and from the one length to the other it grows so many times at most
 
 
 def fresh(length):
@@ -42,8 +45,8 @@ def nearly_empty(length):
     return heap
 
 
-def filled(length, first, size, part):
-    """A record, then records until there is no room; one of so many is freed, in scattered order."""
+def filled(length, first, size, part=None):
+    """A record, then records until there is no room; one of so many is freed, in scattered order, or none."""
     rng, heap, records = random.Random(1), fresh(length), []
     heap.allocate(first)
     while True:
@@ -51,7 +54,7 @@ def filled(length, first, size, part):
         if refusal == NO_ROOM:
             break
         records.append(address)
-    for address in rng.sample(records, len(records) // part):
+    for address in rng.sample(records, len(records) // part if part else 0):
         heap.free(address)
     return heap
 
@@ -75,6 +78,20 @@ def full_of_older_items(length):
     return heap
 
 
+def half_the_pages_empty(length):
+    """Full of the smallest items; every second page is emptied, and in the others one item of three is freed."""
+    heap = filled(length, 600, lambda rng: 8)
+    for index, page in enumerate(sorted(heap.state.page_class)):
+        for item in heap.state.items_of_page(page)[::3 if index % 2 else 1]:
+            heap.free(item + 8)
+    return heap
+
+
+def all_classes(length):
+    """A block, and then items of all classes by chance; half of them is freed."""
+    return filled(length, 600, lambda rng: rng.randint(1, 256), 2)
+
+
 def mixed(length):
     """Items of all classes and blocks, in turn by chance; a third of them is freed."""
     return filled(length, 40, lambda rng: rng.choice((rng.randint(1, 256), rng.randint(257, 2000))), 3)
@@ -82,7 +99,8 @@ def mixed(length):
 
 KINDS = {"empty": fresh, "nearly empty": nearly_empty, "full of blocks": full_of_blocks, "full of items": full_of_items,
          "mixed": mixed}
-CHECKED = {"full of older items": full_of_older_items}  # what the check alone is measured on
+# What only the check and the sweep are measured on.
+SWEPT = {"full of older items": full_of_older_items, "half the pages empty": half_the_pages_empty, "all classes": all_classes}
 
 
 def last(items):
@@ -224,7 +242,8 @@ def comes_out(heap, name, call, address, size):
 def calls_on(kind, heap):
     """What is measured on a heap: (name, call, address, size), only what ends as its name says."""
     yield "check", "check", 0, 0
-    for sort in () if kind in CHECKED else (allocations, frees, resizes, resizes_in_place, moves):
+    yield "sweep", "sweep", 0, 0
+    for sort in () if kind in SWEPT else (allocations, frees, resizes, resizes_in_place, moves):
         yield from (row for row in sort(heap) if comes_out(heap, *row))
 
 
@@ -263,7 +282,7 @@ def rows(program, sizes):
     """(length, kind of heap, name of the call, ours, the twin's)"""
     for length in sizes:
         yield length, "not opened", "initialise", *count(program, saved("zeros.heap", bytes(length)), "initialise", 0, 0)
-        for kind, make in (KINDS | CHECKED).items():
+        for kind, make in (KINDS | SWEPT).items():
             heap = make(length)
             path = saved(f"{kind.replace(' ', '-')}-{length}.heap", heap.data)
             for name, call, address, size in calls_on(kind, heap):
@@ -279,6 +298,24 @@ def print_growth(counts):
             print(f"| {kind} | {name} | {short:,} | {long:,} | {long / short:.1f} | {by_length[long] / by_length[short]:.1f} |")
 
 
+def over_limit(what, value, limit):
+    """Prints how a value stands to its limit; whether it is over it."""
+    print(f"\n{what}: {value:.3f}; the limit is {limit}")
+    return value > limit
+
+
+def sweeps_over_limits(counts):
+    """Whether a sweep of the heap with half its pages empty costs too much against its check, or grows too much."""
+    checks, sweeps = (counts["half the pages empty", call] for call in ("check", "sweep"))
+    over = [over_limit(f"sweep against check, {length:,}, half the pages empty", sweeps[length] / checks[length], SWEEP_LIMIT)
+            for length in sweeps]
+    short, long = SWEEP_GROWS
+    if short in sweeps and long in sweeps:
+        over.append(over_limit(f"sweep of {long:,} against {short:,}, half the pages empty", sweeps[long] / sweeps[short],
+                               SWEEP_GROWTH_LIMIT))
+    return any(over)
+
+
 def options():
     parser = argparse.ArgumentParser(description="Counts instructions against the plain C twin.")
     parser.add_argument("--library", nargs="*", default=[], metavar="FILE", help=".a, .o or .c files with the calls")
@@ -292,16 +329,19 @@ def main():
     os.makedirs(PRODUCTS, exist_ok=True)
     program = build(chosen.library, chosen.prefix)
     print("| heap | call | ours | twin | ratio |\n|---|---|---:|---:|---:|")
-    counts, worst, where = {}, 0, ""
+    counts, worst = {}, {}
     for length, kind, name, ours, twin in rows(program, map(int, chosen.sizes.split(","))):
         counts.setdefault((kind, name), {})[length] = ours
         print(f"| {length:,}, {kind} | {name} | {ours:,} | {twin:,} | {ours / twin:.2f} |", flush=True)
-        worst, where = max((worst, where), (ours / twin, f"{name}, {length:,}, {kind}"))
+        row = ours / twin, f"{name}, {length:,}, {kind}"
+        worst[name == "sweep"] = max(worst.get(name == "sweep", row), row)
     print_growth(counts)
     for library in chosen.library:
         print(f"\n{os.path.basename(library)}: {os.path.getsize(library):,} bytes")
-    print(f"\nworst ratio: {worst:.3f} ({where}); the limit is {LIMIT}")
-    return 1 if worst > LIMIT else 0
+    dear_sweeps = sweeps_over_limits(counts)
+    slow = [over_limit(f"worst ratio, {where}", ratio, SWEEP_TWIN_LIMIT if sweep else LIMIT)
+            for sweep, (ratio, where) in sorted(worst.items(), reverse=True)]
+    return 1 if dear_sweeps or any(slow) else 0
 
 
 if __name__ == "__main__":

@@ -19,6 +19,7 @@ enum {
     SMALLEST_FREE = 32,
     SMALLEST_VARIABLE = 280,
     SMALLEST_PAGE = 4112,
+    MOST_PAGES = (LONGEST - DATA_AREA) / SMALLEST_PAGE,
     CHUNK = 128
 };
 
@@ -417,8 +418,8 @@ static uint64_t take_block(uint8_t *h, uint64_t need, uint64_t kind)
 }
 
 /* Frees the bytes of a used block and joins them with free neighbours; "previous" is the last free block
-   before them. */
-static void release_block(uint8_t *h, uint64_t block, uint64_t size, uint64_t previous)
+   before them. Answers the free block that they are then in. */
+static uint64_t release_block(uint8_t *h, uint64_t block, uint64_t size, uint64_t previous)
 {
     uint64_t next = get(h, previous ? previous + 8 : FIRST_FREE);
 
@@ -432,6 +433,7 @@ static void release_block(uint8_t *h, uint64_t block, uint64_t size, uint64_t pr
         previous = previous_of(h, block);
     }
     link_free(h, block, size, previous, next);
+    return block;
 }
 
 /* Items. */
@@ -640,6 +642,115 @@ static uint64_t move(uint8_t *h, struct live *live, uint64_t address, uint64_t s
     return new;
 }
 
+/* The sweep. */
+
+static uint64_t live_items(const uint8_t *h, uint64_t page, uint64_t class)
+{
+    uint64_t item = page + 8;
+    uint64_t count = 0;
+
+    for (uint64_t left = items_in_page(class); left != 0; left--) {
+        count += get(h, item) / 2 % 2;
+        item += item_size(class);
+    }
+    return count;
+}
+
+/* Frees the pages with no live item in one walk, which goes on behind the free block that each is then in; answers how
+   many they were. */
+static uint64_t give_back_pages(uint8_t *h, uint64_t end)
+{
+    uint64_t position = DATA_AREA;
+    uint64_t previous_free = 0;
+    uint64_t count = 0;
+
+    while (position != end) {
+        uint64_t tag = get(h, position);
+        if (kind_of(tag) == PAGE && live_items(h, position, class_in(get(h, position + 8))) == 0) {
+            position = previous_free = release_block(h, position, size_of(tag), previous_free);
+            tag = get(h, position);
+            count++;
+        } else if (kind_of(tag) == FREE) {
+            previous_free = position;
+        }
+        position += size_of(tag);
+    }
+    return count;
+}
+
+struct page {
+    uint32_t position;
+    uint32_t live;
+};
+
+/* Notes the pages of a class, in rising position; answers how many they are. */
+static uint64_t find_pages(const uint8_t *h, uint64_t end, uint64_t class, struct page *pages)
+{
+    uint64_t count = 0;
+    uint64_t tag;
+
+    for (uint64_t position = DATA_AREA; position != end; position += size_of(tag)) {
+        tag = get(h, position);
+        if (kind_of(tag) != PAGE || class_in(get(h, position + 8)) != class)
+            continue;
+        pages[count].position = (uint32_t)position;
+        pages[count].live = (uint32_t)live_items(h, position, class);
+        count++;
+    }
+    return count;
+}
+
+/* Puts the free items of a page before those of a list, the last one first; answers the list's new head. */
+static uint64_t link_items(uint8_t *h, uint64_t page, uint64_t class, uint64_t head)
+{
+    uint64_t item = page + 8 + items_in_page(class) * item_size(class);
+
+    for (uint64_t left = items_in_page(class); left != 0; left--) {
+        item -= item_size(class);
+        if (get(h, item) & 2)
+            continue;
+        put(h, item, free_header(class, head));
+        head = item - INDEX_PAGE;
+    }
+    return head;
+}
+
+/* The least number of live items from `live` on that a page has, below `most`; `most` where none has. */
+static uint64_t next_live(const struct page *pages, uint64_t count, uint64_t live, uint64_t most)
+{
+    uint64_t next = most;
+
+    for (uint64_t i = 0; i < count; i++)
+        if (pages[i].live >= live && pages[i].live < next)
+            next = pages[i].live;
+    return next;
+}
+
+/* Links the list of a class from its end on: pages with fewest live items come first, and among equals the last. A
+   function of its own at run time too: so the compiler keeps the loop over the classes short. */
+static __attribute__((noinline)) void link_list(uint8_t *h, uint64_t end, uint64_t class, struct page *pages)
+{
+    uint64_t count = find_pages(h, end, class, pages);
+    uint64_t head = 0;
+
+    uint64_t most = items_in_page(class);
+    for (uint64_t live = next_live(pages, count, 0, most); live < most; live = next_live(pages, count, live + 1, most))
+        for (uint64_t i = count; i-- != 0;)
+            if (pages[i].live == live)
+                head = link_items(h, pages[i].position, class, head);
+    put_head(h, class, head);
+}
+
+/* An empty list stays so: its class has no page with a free item. */
+static void link_lists(uint8_t *h, uint64_t end)
+{
+    struct page pages[MOST_PAGES];
+
+    for (uint64_t class = 0; class < CLASSES; class++)
+        if (head_of(h, class) != 0)
+            link_list(h, end, class, pages);
+}
+
 /* The calls. */
 
 uint64_t twin_initialise(uint8_t *h, size_t n)
@@ -741,4 +852,15 @@ uint64_t twin_free(uint8_t *h, size_t n, uint64_t address)
         return refuse(BAD_ADDRESS);
     release(h, &live, address);
     return GRANTED;
+}
+
+uint64_t twin_sweep(uint8_t *h, size_t n)
+{
+    uint64_t refused = twin_check(h, n);
+
+    if (refused)
+        return refused;
+    uint64_t count = give_back_pages(h, end_of(n));
+    link_lists(h, end_of(n));
+    return count;
 }

@@ -1,5 +1,5 @@
 /* The heap of document 01 in plain C, as a yardstick for speed.
-   Each call answers refusal * 2^32 + address. */
+   Each call answers refusal * 2^32 + address; a sweep, refusal * 2^32 + pages given back. */
 #ifndef TWIN_H
 #define TWIN_H
 
@@ -13,5 +13,6 @@ uint64_t twin_resize(uint8_t *h, size_t n, uint64_t address, uint64_t size);
 uint64_t twin_resize_in_place(uint8_t *h, size_t n, uint64_t address, uint64_t size);
 uint64_t twin_move(uint8_t *h, size_t n, uint64_t address, uint64_t size);
 uint64_t twin_free(uint8_t *h, size_t n, uint64_t address);
+uint64_t twin_sweep(uint8_t *h, size_t n);
 
 #endif

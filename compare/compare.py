@@ -6,11 +6,13 @@
 
 "--library bench/twin.c --prefix twin_" compares the plain C twin. The driver is
 built below target/compare. The figures that are run come first, then the sizes
-that an item's header can have. A failure prints the calls up to the first one
-that differs, and the status is 1.
+that an item's header can have, then runs on a heap and a longer one, random runs
+and damaged heaps; two processes share them. A failure prints the calls up to the
+first one that differs, and the status is 1.
 """
 
 import argparse
+import itertools
 import os
 import random
 import struct
@@ -18,12 +20,14 @@ import subprocess
 import sys
 import tempfile
 import time
+from concurrent.futures import ProcessPoolExecutor
+from itertools import repeat
 
 sys.dont_write_bytecode = True  # products belong below target/
 from damage import damaged
 from heaps import Tally
-from runs import CALLS, RESIZES, Run, Player, random_run, sound_heap
-from second import CLASSES, FIGURES, items_in_page, played
+from runs import CALLS, RESIZES, Run, Player, full_of_pages, random_run, run_and_longer, sound_heap, swept_heap, swept_run
+from second import CLASSES, FIGURES, NO_ROOM, items_in_page, played
 
 ROOT = os.path.dirname(os.path.dirname(os.path.abspath(__file__)))
 PRODUCTS = os.path.join(ROOT, "target", "compare")
@@ -32,8 +36,15 @@ GUARD_FILL = b"\xa5"
 BATCH_BYTES = 16 << 20
 TIME_LIMIT = 120  # seconds for one batch, of which an emulator needs some
 STACK = struct.Struct("<QQQ")  # what the driver says last
+PARTS = 2  # processes side by side: each takes every second figure, class, run and group of damaged heaps
+PAIRS = 20  # runs on a heap and on a longer one
+SWEPT = 300  # heaps that are swept above all
+# Classes whose pages fill the longest heap, and which shares of these pages are in use: the most items that there can be, in
+# pages of which many are empty; and the most pages, which all stay or all go.
+SWEPT_PAGES = ((0, (0, 0.5, 0.9, 1)), (1, (0.1, 0.5, 0.9, 1)), (1, (0,)))
 HEAPS_FROM_ONE = 25  # damaged heaps made from the same sound one
-REFUSED_SHARE = 4  # of so many damaged heaps one at least refuses each form of resize as not sound
+# For so many damaged heaps there is at least one call that is refused as not sound: of each form of resize, and of sweep.
+REFUSED_SHARES = dict.fromkeys(RESIZES, 4) | {"sweep": 1}
 # Ways by which one at least of so many damaged heaps must be made.
 SIZE_SHARE = 500
 SIZE_WAYS = ("size_not_known", "size_at_an_end_of_its_class", "size_of_its_class", "size_just_outside_its_class",
@@ -57,6 +68,18 @@ SHARES = {
     "move: stale bytes stay behind": 2000,
     "free: an item": 50,
     "free: an older item": 100,
+    "sweeps": 50,
+    "sweep: a page is given back": 300,
+    "sweep: touching pages are given back": 1000,
+    "sweep: a page between free blocks is given back": 2000,
+    "sweep: the last block is given back": 2000,
+    "sweep: 0, and lists change": 1000,
+    "sweep: 0, and no byte changes": 500,
+    "sweep: lists of several classes change": 1000,
+    "sweep: a full page stays out of a list": 2000,
+    "sweep: a fuller page comes before a lower one": 1000,
+    "sweep: unequal pages change places": 1000,
+    "sweep: equal pages change places": 2500,
 }
 
 
@@ -64,7 +87,7 @@ class Difference(Exception):
     """Where and how the library differs."""
 
     def __init__(self, run, index, lines):
-        super().__init__()
+        super().__init__(run, index, lines)  # with these it can come from another process
         self.run, self.index, self.lines = run, index, lines
 
 
@@ -120,14 +143,14 @@ class Driver:
 
 def read_answer(answers, at):
     """One call's answer, its changed ranges and where the next answer begins; raises if cut short."""
-    answer, count = struct.unpack_from("<QQ", answers, at)
-    at += 16
+    answer, offset, length = struct.unpack_from("<QqQ", answers, at)
+    at += 24
     ranges = []
-    for _ in range(count):
-        offset, length = struct.unpack_from("<qQ", answers, at)
-        at += 16
+    while length:
         ranges.append((offset, answers[at:at + length]))
         at += length
+        offset, length = struct.unpack_from("<qQ", answers, at)
+        at += 16
     return answer, ranges, at
 
 
@@ -168,8 +191,8 @@ def apply_ranges(got, ranges):
 
 
 def describe(expected, actual, wanted, got, outside):
-    lines = [f"expected: refusal {expected >> 32}, address {expected % 2**32}",
-             f"actual:   refusal {actual >> 32}, address {actual % 2**32}"]
+    lines = [f"expected: refusal {expected >> 32}, address or pages {expected % 2**32}",
+             f"actual:   refusal {actual >> 32}, address or pages {actual % 2**32}"]
     if outside:
         lines.append("bytes outside the lent buffer were changed")
     differing = [p for p in range(0, len(wanted), 8) if wanted[p:p + 8] != got[p:p + 8]]
@@ -240,22 +263,41 @@ def size_runs(classes, counts):
 
 
 def count_calls(run, counts):
-    """Adds a run's calls, and what came of its resizes and frees."""
+    """Adds a run's calls, and what came of its resizes, frees and sweeps."""
     counts["calls"] += run.calls
     counts["resize: kept for want of room"] += run.heap.kept
     counts.update(run.met)
 
 
-def random_runs(seed, number, counts):
+def longer_runs(seed, labels, counts):
+    """Pairs of a run and the same run on a longer heap."""
+    for label in labels:
+        shorter, longer = run_and_longer(generator(seed, label), label)
+        counts["pairs"] += 1
+        counts["pairs: pages are given back"] += shorter.met["sweep: a page is given back"]
+        yield shorter
+        yield longer
+
+
+def swept_runs(seed, labels, counts):
+    """Heaps that are swept above all; those with a label pages:INDEX are full of pages."""
+    for label in labels:
+        rng, (kind, index) = generator(seed, label), label.split(":")
+        run = swept_run(rng, label, full_of_pages(rng, *SWEPT_PAGES[int(index)]) if kind == "pages" else swept_heap(rng))
+        check_second(run)
+        counts.update({case: met for case, met in run.met.items() if case.startswith("sweep")})  # the rest is for random runs to meet
+        counts["swept"] += 1
+        yield run
+
+
+def random_runs(seed, labels, number, counts):
     """Runs until there are this many calls."""
-    index = 0
     while counts["calls"] < number:
-        label = f"run:{index}"
+        label = next(labels)
         run = random_run(generator(seed, label), label)
         check_second(run)
         count_calls(run, counts)
         counts["heaps"] += 1
-        index += 1
         yield run
 
 
@@ -281,7 +323,7 @@ def damaged_runs(rng, label, count, counts):
 def calls_on_damaged(rng, run):
     player = Player(rng, run)
     run.call("check")
-    calls = [player.allocate, player.resize, player.free, player.allocate, player.resize, player.free]
+    calls = [player.allocate, player.resize, player.free, player.allocate, player.resize, player.free, run.sweep_twice]
     rng.shuffle(calls)
     for call in calls:
         call()
@@ -289,14 +331,12 @@ def calls_on_damaged(rng, run):
     run.call("check")
 
 
-def all_damaged_runs(seed, number, counts):
-    group = 0
+def all_damaged_runs(seed, labels, number, counts):
     while counts["damaged"] < number:
-        label = f"damaged:{group}"
+        label = next(labels)
         for run in damaged_runs(generator(seed, label), label, HEAPS_FROM_ONE, counts):
             count_calls(run, counts)
             yield run
-        group += 1
 
 
 def one_run(seed, label, counts):
@@ -306,17 +346,68 @@ def one_run(seed, label, counts):
         yield from figure_runs([label.removeprefix("figure:")], counts)
     elif label.startswith("sizes:"):
         yield from size_runs([int(label.removeprefix("sizes:"))], counts)
+    elif label.startswith("longer:"):
+        yield from longer_runs(seed, [label], counts)
+    elif label.startswith(("pages:", "swept:")):
+        yield from swept_runs(seed, [label], counts)
     elif label.startswith("run:"):
         yield random_run(rng, label)
     else:
         yield from damaged_runs(rng, label, HEAPS_FROM_ONE, counts)
 
 
-def stack_used(driver, calls, limit):
+def part_of_runs(part, chosen, counts, damaged_counts):
+    """The runs of a part: of each kind every one whose turn it is, so that the parts together are the same at any pace."""
+    def labels(kind):
+        return (f"{kind}:{index}" for index in itertools.count(part, PARTS))
+
+    seed = chosen.seed
+    yield from figure_runs([*FIGURES][part::PARTS], counts)
+    yield from size_runs(range(CLASSES)[part::PARTS], counts)
+    yield from longer_runs(seed, itertools.islice(labels("longer"), PAIRS // PARTS), counts)
+    yield from swept_runs(seed, [f"pages:{index}" for index in range(len(SWEPT_PAGES))][part::PARTS], counts)
+    yield from swept_runs(seed, itertools.islice(labels("swept"), SWEPT // PARTS), counts)
+    yield from random_runs(seed, labels("run"), chosen.number / PARTS, counts)
+    yield from all_damaged_runs(seed, labels("damaged"), chosen.damaged / PARTS, damaged_counts)
+
+
+def compare_part(program, chosen, part):
+    """Compares a part of all runs, or the only one; answers what it met, on damaged heaps too, and its driver."""
+    counts, damaged_counts, driver = Tally(), Tally(), Driver(program)
+    runs = one_run(chosen.seed, chosen.only, counts) if chosen.only else part_of_runs(part, chosen, counts, damaged_counts)
+    for run in runs:
+        driver.add(run)
+    driver.finish()
+    return counts, damaged_counts, driver
+
+
+def compare_side_by_side(program, chosen):
+    """The sums of what the parts met, and their drivers."""
+    counts, damaged_counts, drivers = Tally(), Tally(), []
+    with ProcessPoolExecutor(PARTS) as pool:
+        parts = range(1 if chosen.only else PARTS)
+        for met, met_damaged, driver in pool.map(compare_part, repeat(program), repeat(chosen), parts):
+            counts.update(met)
+            damaged_counts.update(met_damaged)
+            drivers.append(driver)
+    return counts, damaged_counts, drivers
+
+
+def demand_enough(counts, damaged_counts):
+    """Fails where some case was met too seldom."""
+    counts.demand({case: counts["calls"] // share for case, share in SHARES.items()})
+    counts.demand({"pairs": PAIRS, "pairs: pages are given back": PAIRS})
+    number = damaged_counts["damaged"]
+    damaged_counts.demand({f"{call}: refused with 3": number // share for call, share in REFUSED_SHARES.items()})
+    damaged_counts.demand(dict.fromkeys(SIZE_WAYS, number // SIZE_SHARE))
+
+
+def stack_used(drivers, calls, limit):
     """The deepest call in words; fails where it is deeper than the limit, or than the header promises."""
-    limit = limit or driver.promised
-    said = f"the deepest of {driver.measured} calls used {driver.deepest} of {limit} bytes of stack"
-    if driver.measured * 10 < calls or not 0 < driver.deepest <= limit:
+    measured, deepest = sum(driver.measured for driver in drivers), max(driver.deepest for driver in drivers)
+    limit = limit or drivers[0].promised
+    said = f"the deepest of {measured} calls used {deepest} of {limit} bytes of stack"
+    if measured * 10 < calls or not 0 < deepest <= limit:
         raise SystemExit(f"compare: {said}")
     return said
 
@@ -336,32 +427,20 @@ def options():
 def main():
     chosen = options()
     began = time.monotonic()
-    counts = Tally()
-    driver = Driver(build_driver(chosen.library, chosen.prefix))
     try:
-        if chosen.only:
-            for run in one_run(chosen.seed, chosen.only, counts):
-                driver.add(run)
-        else:
-            for run in figure_runs(FIGURES, counts):
-                driver.add(run)
-            for run in size_runs(range(CLASSES), counts):
-                driver.add(run)
-            for run in random_runs(chosen.seed, chosen.number, counts):
-                driver.add(run)
-            counts.demand({case: counts["calls"] // share for case, share in SHARES.items()})
-            for run in all_damaged_runs(chosen.seed, chosen.damaged, counts):
-                driver.add(run)
-            counts.demand({f"{form}: refused with 3": counts["damaged"] // REFUSED_SHARE for form in RESIZES})
-            counts.demand(dict.fromkeys(SIZE_WAYS, counts["damaged"] // SIZE_SHARE))
-        driver.finish()
+        counts, damaged_counts, drivers = compare_side_by_side(build_driver(chosen.library, chosen.prefix), chosen)
     except Difference as difference:
         report(difference, chosen.seed)
         return 1
-    stack = stack_used(driver, counts["calls"], chosen.stack)
+    if not chosen.only:
+        demand_enough(counts, damaged_counts)
+    calls = counts["calls"] + damaged_counts["calls"]
+    stack = stack_used(drivers, calls, chosen.stack)
     print(f"compare: {counts['figures']} figures, {counts['sizes']} sizes in headers, and from seed {chosen.seed} "
-          f"{counts['calls']} calls on {counts['heaps']} heaps and {counts['damaged']} damaged heaps "
-          f"({counts['still sound']} of them still sound) agree, {stack}, {time.monotonic() - began:.0f} s")
+          f"{counts['pairs']} runs on a heap and a longer one, {counts['swept']} heaps that are swept above all, {calls} calls on "
+          f"{counts['heaps']} heaps and {damaged_counts['damaged']} damaged heaps ({damaged_counts['still sound']} of them still "
+          f"sound) agree, {stack}, {time.monotonic() - began:.0f} s")
+    counts.update(damaged_counts)
     print("compare: among them " + ", ".join(f"{counts[case]} of '{case}'" for case in SHARES))
     return 0
 

@@ -10,9 +10,10 @@
      H address size         resize in place ("here")
      M address size         move
      F address              free
-   Answer to each call: its own answer, the number of ranges, and for each range its offset from the
-   buffer's start (as a signed number), its length and its new bytes. Outside the buffer all bytes are FILL
-   until a call changes them.
+     W                      sweep
+   Answer to each call: its own answer, and for each range its offset from the buffer's start (as a signed
+   number), its length and its new bytes; a range of length 0 comes last. Outside the buffer all bytes are
+   FILL until a call changes them.
    At the end: of how many calls the stack was measured, the most bytes of it that one used, and JAGWIBODU_STACK. */
 #include "../include/jagwibodu.h"
 
@@ -24,6 +25,7 @@
 #define LONGEST 1048640
 #define GUARD 64
 #define FILL 0xa5
+#define STRETCH 4096 /* so many bytes are compared at once where nothing changed */
 
 static _Alignas(8) uint8_t arena[GUARD + 8 + LONGEST + GUARD + 8];
 static _Alignas(8) uint8_t shadow[sizeof arena];
@@ -92,6 +94,8 @@ static int word_changed(size_t at)
 /* Where the next changed word is from here on, or the end. */
 static size_t next_change(size_t at, size_t end)
 {
+    while (end - at >= STRETCH && memcmp(arena + at, shadow + at, STRETCH) == 0)
+        at += STRETCH;
     while (at < end && !word_changed(at))
         at += 8;
     return at;
@@ -105,21 +109,11 @@ static size_t change_end(size_t at, size_t end)
     return at;
 }
 
-static uint64_t count_changes(size_t end)
-{
-    uint64_t count = 0;
-
-    for (size_t at = next_change(0, end); at < end; at = next_change(change_end(at, end), end))
-        count++;
-    return count;
-}
-
 static void write_changes(void)
 {
     size_t end = used_arena();
     size_t stop;
 
-    write_word(count_changes(end));
     for (size_t at = next_change(0, end); at < end; at = next_change(stop, end)) {
         stop = change_end(at, end);
         write_word((uint64_t)at - (uint64_t)(heap - arena));
@@ -127,6 +121,8 @@ static void write_changes(void)
         fwrite(arena + at, 1, stop - at, stdout);
         memcpy(shadow + at, arena + at, stop - at);
     }
+    write_word(0);
+    write_word(0);
 }
 
 /* The stack that a call uses is measured: the stretch below the caller's frame is painted, the call is made, and the
@@ -233,6 +229,9 @@ static __attribute__((noinline)) uint64_t called(int command, uint64_t first, ui
         break;
     case 'F':
         result = jagwibodu_free(heap, length, first);
+        break;
+    case 'W':
+        result = jagwibodu_sweep(heap, length);
         break;
     default:
         fail("no such command");

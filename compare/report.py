@@ -16,10 +16,6 @@ STATISTICS = ("free bytes", "free blocks", "largest free block", "variable block
 CHARACTERS, COLUMNS = 1024, 64
 
 
-def held_in(state, page):
-    return sum(item in state.item_class for item in state.items_of_page(page))
-
-
 def class_lines(table):
     return [f"{c} {item_size(c) - 8} {pages} {live} {free}" for c, (pages, live, free) in enumerate(table) if pages]
 
@@ -30,7 +26,7 @@ def block_line(state, answer):
     if what == "free":
         return f"{line}, next {rest[0]}, previous {rest[1]}"
     if what == "page":
-        held, items = held_in(state, position), len(state.items_of_page(position))
+        held, items = state.held_in(position), len(state.items_of_page(position))
         return f"{line}, class {rest[0]}, live items {held}, free items {items - held}"
     return line
 
@@ -47,7 +43,7 @@ def mark(state, block):
     """The character of a block."""
     kind, _ = state.blocks[block]
     if kind == PAGE:
-        return str(min(9, 10 * held_in(state, block) // len(state.items_of_page(block))))
+        return str(min(9, 10 * state.held_in(block) // len(state.items_of_page(block))))
     return {FREE: ".", VARIABLE: "#"}[kind]
 
 

@@ -8,10 +8,11 @@ from second import (CLASSES, DATA_AREA, FREE, LARGEST_ITEM, LONGEST, MAGIC, NO_R
                     Heap, State, class_of, end_of, item_size, items_in_page)
 
 CALLS = {"initialise": b"I", "check": b"C", "allocate": b"A", "resize": b"R", "resize_in_place": b"H", "move": b"M",
-         "free": b"F"}
+         "free": b"F", "sweep": b"W"}
 RESIZES = ("resize", "resize_in_place", "move")  # the forms that a resize has
 BAD_SIZES = (0, 1048577, 2**32, 2**32 + 16, 2**63, 2**64 - 24, 2**64 - 8, 2**64 - 1)
 EDGE_SIZES = (1, 7, 8, 9, 16, 17, 247, 248, 249, 255, 256, 257, 258, 263, 264, 265, 272, 273, 1048576)
+CALLS_OF_A_PAIR = 250
 BAD_LENGTHS = (0, 1, 8, 47, 312, 343, 1048577, 1048584, 1048600)
 
 
@@ -52,11 +53,48 @@ def what_stayed(size, old, new):
     return f"{old.what()} is left as it was" if old.sort() == min(class_of(size), CLASSES) else f"{old.what()} is kept"
 
 
+def where_given_back(state):
+    """How the pages that a sweep of this heap gives back stand."""
+    behind = {page: page + state.blocks[page][1] for page in state.page_class if not state.held_in(page)}
+    if behind:
+        yield "a page is given back"
+    if any(position in behind for position in behind.values()):
+        yield "touching pages are given back"
+    if any(state.is_free(state.block_before(page)) and state.is_free(position) for page, position in behind.items()):
+        yield "a page between free blocks is given back"
+    if state.end in behind.values():
+        yield "the last block is given back"
+
+
+def how_linked_anew(state, old_lists):
+    """What a sweep that left this heap made of the lists that were there before, of the pages that stay."""
+    changed = [c for c in range(CLASSES) if state.lists[c] != old_lists[c]]
+    if len(changed) > 1:
+        yield "lists of several classes change"
+    for c in changed:
+        was, now = ([*dict.fromkeys(map(state.block_before, reversed(items)))] for items in (old_lists[c], state.lists[c]))
+        if len(now) < sum(d == c for d in state.page_class.values()):
+            yield "a full page stays out of a list"
+        for first, second in zip(now, now[1:]):  # pages in their new order
+            if first > second:
+                yield "a fuller page comes before a lower one"
+            if was.index(first) > was.index(second):
+                equal = state.held_in(first) == state.held_in(second)
+                yield "equal pages change places" if equal else "unequal pages change places"
+
+
+class Step(NamedTuple):
+    """A call, and what the second program answered and changed; or "poke", a position, the bytes that go there, and none."""
+    name: str
+    arguments: tuple
+    answer: int
+    writes: list
+
+
 class Run:
     """One lent buffer and what is done to it, in order.
 
-    A step is (call, arguments, answer, writes) or ("poke", position, bytes, None).
-    "met" counts what came of each form of resize, and what was freed.
+    "met" counts what came of each form of resize, what was freed, and what sweeps met.
     """
 
     def __init__(self, label, start, shift, origin):
@@ -74,7 +112,7 @@ class Run:
         refusal, address = getattr(self.heap, name)(*arguments)
         writes, self.heap.writes = self.heap.writes, []
         self.commands += CALLS[name] + b"".join(map(WORD.pack, arguments))
-        self.steps.append((name, arguments, refusal << 32 | address, writes))
+        self.steps.append(Step(name, arguments, refusal << 32 | address, writes))
         self.calls += 1
         return refusal, address
 
@@ -114,6 +152,28 @@ class Run:
         self.met[f"free: refused with {refusal}" if refusal else f"free: {old.what()}"] += 1
         return refusal
 
+    def sweep(self):
+        """Sweeps, and counts each case that it met once."""
+        state = self.heap.state
+        cases, old_lists = set(where_given_back(state) if state else ()), state and state.lists
+        refusal, pages = self.call("sweep")
+        self.met["sweeps"] += 1
+        changed = bool(self.steps[-1].writes)
+        if refusal:
+            cases.add(f"refused with {refusal}")
+        else:
+            cases.update(how_linked_anew(state, old_lists))
+            if not pages:
+                cases.add("0, and lists change" if changed else "0, and no byte changes")
+        self.met.update(f"sweep: {case}" for case in cases)
+        return refusal, pages, changed
+
+    def sweep_twice(self):
+        """The second time there is nothing left to do."""
+        refusal, _, _ = self.sweep()
+        if self.sweep() != (refusal, 0, False):
+            raise SystemExit(f"compare: {self.label}: the second program finds work for a second sweep")
+
     def forget(self, items):
         """Sets the headers of these items in use back to those of an older heap, which kept no size."""
         for item in items:
@@ -124,7 +184,7 @@ class Run:
         """Writes bytes from outside; the caller sees to decoding where it is needed."""
         self.heap.data[position:position + len(content)] = content
         self.commands += struct.pack("<cQQ", b"P", position, len(content)) + content
-        self.steps.append(("poke", position, content, None))
+        self.steps.append(Step("poke", position, content, None))
 
 
 def random_length(rng):
@@ -168,22 +228,27 @@ def forged_words(rng, state):
 
 
 FILLING, DRAINING = (80, 10, 10), (10, 20, 70)
-MOODS = (FILLING, DRAINING, (40, 20, 40), (20, 60, 20))  # how likely allocate, resize and free are
+SWEPT_OFTEN = 20000  # longer heaps are swept less: each sweep costs as much as many other calls
+# How likely allocate, resize and free are; the first mood of some is for a heap with nothing in it.
+MOODS = (FILLING, DRAINING, (40, 20, 40), (20, 60, 20))
+MOODS_WITHOUT_RESIZE = ((90, 0, 10), (20, 0, 80))
 
 
 class Player:
     """Plays random calls on a run."""
 
-    def __init__(self, rng, run):
+    def __init__(self, rng, run, moods=MOODS):
         self.rng = rng
         self.run = run
+        self.moods = moods
         self.live = []
         self.place = {}  # address -> its index in live
         self.dead = [0]
         self.forged = [0]  # addresses behind a forged header or tag
         self.check_share = 0.02
         self.forget_share = rng.choice((0, 0.05, 0.3))  # of what is poked
-        self.set_mood(FILLING)
+        self.sweep_share = rng.choice((0, 0.02, 0.1)) * min(1, SWEPT_OFTEN / max(1, len(run.heap.data)))
+        self.set_mood(moods[0])
         self.class_of_run = rng.randrange(CLASSES)
         self.size_makers = rng.choice((
             (self.small,), (self.one_class,), (self.block,), (self.small, self.block), (self.edge, self.fit),
@@ -302,6 +367,25 @@ class Player:
         if not self.run.free(address):
             self.remove(address)
 
+    def clear_pages(self):
+        """Frees all records of a page, and often of the one behind it too."""
+        state = self.run.heap.state
+        page = self.rng.choice(list(state.page_class))
+        behind = page + state.blocks[page][1]
+        for cleared in (page, behind) if behind in state.page_class and self.rng.random() < 0.7 else (page,):
+            for item in [item for item in state.items_of_page(cleared) if item in state.item_class]:
+                self.run.free(item + 8)
+                self.remove(item + 8)
+
+    def sweep(self):
+        """Sweeps, once or twice; often where there is something to give back, seldom where there is no page."""
+        if not (self.run.heap.state and self.run.heap.state.page_class):
+            if self.rng.random() < 0.9:
+                return
+        elif self.rng.random() < 0.3:
+            self.clear_pages()
+        self.rng.choice((self.run.sweep, self.run.sweep_twice))()
+
     def forget(self):
         """Makes an item, or now and then all, those of an older heap."""
         items = list(self.run.heap.state.asked)
@@ -357,14 +441,16 @@ class Player:
         for _ in range(count):
             self.mood_ends -= 1
             if self.mood_ends < 0:
-                self.set_mood(rng.choice(MOODS) if self.live else FILLING)
+                self.set_mood(rng.choice(self.moods) if self.live else self.moods[0])
             if self.run.heap.state and rng.random() < 0.3:
                 self.poke()
             if rng.random() < self.check_share:
                 self.run.call(rng.choice(("check", "initialise" if self.run.heap.state else "check")))
+            if rng.random() < self.sweep_share:
+                self.sweep()
             rng.choices((self.allocate, self.resize, self.free), self.weights)[0]()
             if not self.live:
-                self.set_mood(FILLING)
+                self.set_mood(self.moods[0])
 
     def begin(self):
         """Some calls on whatever the buffer holds, and then a fresh heap."""
@@ -380,6 +466,11 @@ class Player:
         run.call("initialise")
 
 
+def page_size(rng, c):
+    """The size of a page of class c, with spare bytes or without."""
+    return items_in_page(c) * item_size(c) + 16 + rng.choice((0, 8, 16, 24))
+
+
 def invented_block(rng, taste, classes, after_free):
     """The kind and the size of a block, and the class if it is a page."""
     kind = rng.choices((FREE, VARIABLE, PAGE), taste)[0]
@@ -387,8 +478,15 @@ def invented_block(rng, taste, classes, after_free):
         return FREE, 8 * rng.choice((4, 5, 6, 36, rng.randint(4, 100))), None
     if kind == PAGE:
         c = rng.choice(classes)
-        return PAGE, items_in_page(c) * item_size(c) + 16 + rng.choice((0, 8, 16, 24)), c
+        return PAGE, page_size(rng, c), c
     return VARIABLE, 8 * rng.choice((35, rng.randint(35, 50), rng.randint(35, 300))), None
+
+
+def last_page(rng, taste, classes, room):
+    """The class and the size of a page that is to be the last block; the size is 0 where none is to be."""
+    c = rng.choice(classes)
+    size = page_size(rng, c)
+    return c, size if taste[2] and size + 560 <= room and rng.random() < 0.5 else 0
 
 
 def invented_page(rng, state, page, c, share_in_use, share_known):
@@ -402,33 +500,42 @@ def invented_page(rng, state, page, c, share_in_use, share_known):
             state.lists[c].append(item)
 
 
-def invented_state(rng, end):
+# How likely a block of a heap is free, variable or a page; and a page of it has nothing, something or all in use.
+TASTES = ((1, 1, 1), (1, 2, 0), (1, 6, 1), (0, 1, 1), (0, 0, 1), (1, 20, 20))
+TASTES_FOR_PAGES = ((0, 0, 1), (1, 1, 8), (2, 1, 4))
+PAGE_TASTES = ((0, 1, 0), (1, 4, 1), (3, 2, 0))
+
+
+def invented_state(rng, end, tastes):
     """Any sound heap, not only one that calls can lead to."""
     state = State(end)
-    taste = rng.choice(((1, 1, 1), (1, 2, 0), (1, 6, 1), (0, 1, 1), (0, 0, 1), (1, 20, 20)))
+    taste, page_taste = rng.choice(tastes), rng.choice(PAGE_TASTES)
     classes = rng.choices(range(CLASSES), k=rng.choice((1, 2, 4, 40)))
     share_in_use = rng.choice((0, 0.1, 0.5, 0.9, 1))
     share_known = rng.choice((0, 0.5, 1))  # of the items in use; 0: an older heap
+    last_class, last_size = last_page(rng, taste, classes, end - DATA_AREA)
     position, after_free = DATA_AREA, False
     while position != end:
         kind, size, c = invented_block(rng, taste, classes, after_free)
-        left = end - position
-        if size != left and size + 560 > left:  # what is left must hold a block that may stand there
+        left = end - last_size - position
+        if left == 0:
+            kind, size, c = PAGE, last_size, last_class
+        elif size != left and size + 560 > left:  # what is left must hold a block that may stand there
             kind, size = (VARIABLE if after_free or rng.random() < 0.5 and left >= 280 else FREE), left
         state.add_block(position, kind, size)
         if kind == PAGE:
-            invented_page(rng, state, position, c, share_in_use, share_known)
+            invented_page(rng, state, position, c, rng.choices((0, share_in_use, 1), page_taste)[0], share_known)
         position, after_free = position + size, kind == FREE
     for items in state.lists:
         rng.shuffle(items)
     return state
 
 
-def invented_heap(rng, length):
+def invented_heap(rng, length, tastes=TASTES):
     """The bytes of any sound heap, with garbage wherever bytes may be anything."""
     heap = Heap(bytearray(rng.randbytes(length)))
     heap.initialise()
-    heap.state = invented_state(rng, end_of(length))
+    heap.state = invented_state(rng, end_of(length), tastes)
     heap.lay_out_whole()
     return bytes(heap.data)
 
@@ -465,3 +572,52 @@ def random_run(rng, label):
     player.play(count - count // 2)
     run.call("check")
     return run
+
+
+def full_of_pages(rng, c, shares_in_use):
+    """The bytes of the longest heap, with as many pages of class c as it can have, each with one of these shares in use."""
+    heap = Heap(bytearray(LONGEST))
+    heap.initialise()
+    position, left = DATA_AREA, heap.state.remove_block(DATA_AREA)[1]
+    size = items_in_page(c) * item_size(c) + 16
+    while left >= size + 32:
+        heap.state.add_block(position, PAGE, size)
+        invented_page(rng, heap.state, position, c, rng.choice(shares_in_use), 1)
+        position, left = position + size, left - size
+    heap.state.add_block(position, FREE, left)
+    rng.shuffle(heap.state.lists[c])
+    heap.lay_out_whole()
+    return bytes(heap.data)
+
+
+def swept_run(rng, label, start):
+    """Sweeps of a sound heap, and a few other calls in between."""
+    run = Run(label, start, rng.randrange(8), "sound heap")
+    player = Player(rng, run)
+    for _ in range(3):
+        run.sweep_twice()
+        player.play(10)
+    return run
+
+
+def swept_heap(rng):
+    """The bytes of a sound heap with some pages."""
+    return invented_heap(rng, rng.randint(5000, 60000), TASTES_FOR_PAGES)
+
+
+def run_and_longer(rng, label):
+    """A run of allocations, frees and sweeps on a fresh heap, and the same on a longer one with other bytes in its records.
+    While the shorter has room, both answer alike: demand 3."""
+    length = rng.choice((rng.randint(4430, 4570), rng.randint(4600, 40000), rng.randint(4600, 40000)))
+    shorter, longer = (Run(label, rng.randbytes(n), 0, "garbage") for n in (length, length + rng.randint(1, 30000)))
+    shorter.call("initialise")
+    player = Player(rng, shorter, MOODS_WITHOUT_RESIZE)
+    player.sweep_share = 0.05
+    player.play(CALLS_OF_A_PAIR)
+    for step in shorter.steps:
+        if step.name == "poke" or step.answer >> 32 == NO_ROOM:
+            continue
+        refusal, given = longer.call(step.name, *step.arguments)
+        if step.answer != refusal << 32 | given:
+            raise SystemExit(f"compare: {label}: the second program answers {refusal} {given} to {step.name} on the longer heap")
+    return shorter, longer

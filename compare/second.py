@@ -115,6 +115,10 @@ class State:
         first = position + 8
         return range(first, first + items_in_page(c) * item_size(c), item_size(c))
 
+    def held_in(self, page):
+        """How many items of a page are in use."""
+        return sum(item in self.item_class for item in self.items_of_page(page))
+
     def capacity(self, address):
         """How many bytes the payload at a live address holds, or none."""
         position = address - 8
@@ -238,7 +242,7 @@ class Heap:
 
     The abstract heap is kept between calls. Whoever changes bytes other than
     those that may be anything must call decode afterwards. "writes" gathers
-    (position, bytes) of all that the calls write; its reader may clear it.
+    (position, bytes) of all that the calls change; its reader may clear it.
     "kept" counts the resizes that found no room and left their record as it is.
     """
 
@@ -311,6 +315,18 @@ class Heap:
         self._free(address)
         self._lay_out_changes()
         return GRANTED, 0
+
+    def sweep(self):
+        """The refusal and how many pages are given back: document 02, (ii)."""
+        if self.verdict:
+            return self.verdict, 0
+        empty = [page for page in self.state.starts if page in self.state.page_class and not self.state.held_in(page)]
+        for page in empty:  # each is a free of its own, so its tags and links are really written
+            self._give_back(page)
+            self._lay_out_changes()
+        self._link_anew()
+        self._lay_out_changes()
+        return GRANTED, len(empty)
 
     def statistics(self):
         """The refusal, the six numbers and the table of classes."""
@@ -442,6 +458,22 @@ class Heap:
             position = left
         self._add_free(position, size)
 
+    def _give_back(self, page):
+        """Frees a page as a block; what its items have on their list is left to those who link that anew."""
+        del self.state.page_class[page]
+        _, size = self.state.remove_block(page)
+        self._release(page, size)
+
+    def _link_anew(self):
+        """Makes the list of every class from its pages: the fullest first, then the lowest; items rise within a page."""
+        state = self.state
+        state.lists = [[] for _ in range(CLASSES)]
+        for page in sorted(state.page_class, key=lambda page: (-state.held_in(page), page)):
+            state.lists[state.page_class[page]] += [item for item in state.items_of_page(page) if item not in state.item_class]
+        for c, items in enumerate(state.lists):
+            items.reverse()
+            self._changed_list(c, len(items))
+
     def _stay(self, address, size):
         """The address again, if what is there can stay; if so it then has the size."""
         return address if self._resize_item(address, size) or self._resize_block(address, size) else None
@@ -553,8 +585,9 @@ class Heap:
         self._write(position, WORD.pack(value))
 
     def _write(self, position, content):
-        self.data[position:position + len(content)] = content
-        self.writes.append((position, content))
+        if self.data[position:position + len(content)] != content:
+            self.data[position:position + len(content)] = content
+            self.writes.append((position, content))
 
 
 RECORD_CALLS = ("initialise", "allocate", "resize", "free", "statistics")  # by a record's kind
@@ -624,6 +657,10 @@ REMARK = [OPENED, ("allocate", 300, 0, 320), ("allocate", 16, 0, 648), ("allocat
 # what stands in its 16 bytes; the last three are stale
 STALE = [("put", 672, 0x2222222222222222, 0, 0), ("put", 680, 0x3333333333333333, 0, 0)]
 
+# Class 15: of a full page at 312 all records but the last are freed, and a page at 4,544 has three: what (ii) is told of
+TWO_PAGES = [OPENED] + [("allocate", 128, 0, a) for a in (*range(328, 4409, 136), *range(4560, 4833, 136))] + [
+    ("free", a, 0, 0) for a in range(328, 4273, 136)]
+
 # Figures of 01 and 02 that are run, on this program and, by compare.py, on the library: the length of a buffer of
 # zeros; calls, and words put by hand, with their refusals and addresses; words by the positions where they then stand;
 # and, of this program alone, how many bytes a look-up then shows, by the address.
@@ -658,6 +695,18 @@ FIGURES = {
                                     {320: 3855}, {328: 30}),
     "older-item-where-it-is": (4800, [OPENED, ("allocate", 30, 0, 328), ("put", 320, 15, 0, 0), ("resize", 328, 5, 0, 328)],
                                {320: 15}, {328: 32}),
+    "last-freed-first": (10000, TWO_PAGES + [("allocate", 128, 0, 4272)], {}, {}),
+    "fuller-page-first": (10000, TWO_PAGES + [("sweep", 0, 0), ("allocate", 128, 0, 4968)], {168: 5048, 5096: 83005}, {4968: 128}),
+    "page-given-back": (10000, TWO_PAGES + [("sweep", 0, 0), ("allocate", 128, 0, 4968), ("free", 4408, 0, 0),
+                                            ("sweep", 0, 1), ("sweep", 0, 0)],
+                        {24: 312, 168: 5048, 312: 4232, 320: 8776, 4528: 0, 4536: 4232, 4544: 4235, 8776: 1224},
+                        {4408: 0, 4560: 128}),
+    "touching-pages": (10000, TWO_PAGES + [("free", a, 0, 0) for a in (4408, 4560, 4696, 4832)] + [
+        ("sweep", 0, 2), ("sweep", 0, 0), ("allocate", 9672, 0, 320)],
+                       {24: 0, 168: 0, 312: 9690, 4528: 0, 4536: 4232, 4544: 4235, 8768: 4235, 9984: 0, 9992: 9690},
+                       {320: 9672, 4560: 0}),
+    "sweep-of-no-heap": (10000, [("sweep", 2, 0)], {}, {}),
+    "sweep-of-a-damaged-heap": (10000, TWO_PAGES + [("put", 312, 4227, 3, 0), ("sweep", 3, 0)], {}, {}),
 }
 
 
@@ -782,6 +831,20 @@ class SelfTest:
                          != self.resized_at_once(heap.data, address, size)]
             self.same(differing, [])
 
+    def sweeps(self):
+        """Five pages of class 31: those with most live items are used up first, the lower of two equal ones before the other."""
+        heap = self.fresh(30000)
+        pages = [[heap.allocate(256)[1] for _ in range(16)] for _ in range(5)]
+        for page, live in zip(pages, (2, 5, 2, 16, 5)):
+            for address in page[:16 - live]:
+                heap.free(address)
+        self.same(heap.sweep(), (GRANTED, 0))
+        before = bytes(heap.data)
+        self.same(heap.sweep(), (GRANTED, 0))
+        self.same(bytes(heap.data), before)
+        wanted = pages[1][:11] + pages[4][:11] + pages[0][:14] + pages[2][:14]
+        self.same([heap.allocate(256)[1] for _ in wanted], wanted)
+
     def figures(self):
         """Those that are run on the library too; answers the heaps that they leave."""
         heaps = {}
@@ -810,6 +873,7 @@ class SelfTest:
         self.resizes()
         self.resizes_without_change()
         self.resizes_in_two()
+        self.sweeps()
         self.reading()
         self.call_lists()
         return self.count

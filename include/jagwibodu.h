@@ -2,8 +2,8 @@
 
    Each call takes the buffer and its length in bytes, JAGWIBODU_SHORTEST to JAGWIBODU_LONGEST, the same length every
    time. It answers one number, refusal * 2^32 + address: refusal 0 means granted, and the address is a position in the
-   buffer, 0 where the call gives none. Every call checks the whole heap first. A refused call leaves every byte as it
-   was. Calls are safe for all bytes, addresses and sizes.
+   buffer, 0 where the call gives none; a sweep answers a number of pages in its stead. Every call checks the whole heap
+   first. A refused call leaves every byte as it was. Calls are safe for all bytes, addresses and sizes.
 
    A record is as long as was asked for. Of one of up to 256 bytes the heap keeps that length: it is what a look-up
    shows, and a move carries no more bytes along, so what is written behind it may be lost. Heaps of versions before 1.3
@@ -27,14 +27,14 @@
 extern "C" {
 #endif
 
-#define JAGWIBODU_VERSION "1.3"
+#define JAGWIBODU_VERSION "1.4"
 
 /* The lengths that a buffer may have; the largest size that can be asked for is the latter too. */
 #define JAGWIBODU_SHORTEST 344
 #define JAGWIBODU_LONGEST 1048576
 
 /* No call uses more bytes of stack; the tests measure it. */
-#define JAGWIBODU_STACK 20480
+#define JAGWIBODU_STACK 22528
 
 enum jagwibodu_refusal {
     JAGWIBODU_GRANTED = 0,
@@ -47,9 +47,10 @@ enum jagwibodu_refusal {
     JAGWIBODU_ALREADY_OPENED = 7 /* initialise, and the buffer holds a heap */
 };
 
-/* The two parts of an answer. */
+/* The two parts of an answer; of a sweep's the second is JAGWIBODU_PAGES. */
 #define JAGWIBODU_REFUSAL(answer) ((enum jagwibodu_refusal)((answer) >> 32))
 #define JAGWIBODU_ADDRESS(answer) ((size_t)((answer) & 0xffffffffu))
+#define JAGWIBODU_PAGES(answer) ((size_t)((answer) & 0xffffffffu))
 
 /* A refusal in words. */
 static inline const char *jagwibodu_refusal_name(enum jagwibodu_refusal refusal)
@@ -101,8 +102,15 @@ uint64_t jagwibodu_move(uint8_t *buffer, size_t length, uint64_t address, uint64
    Refused with 1 to 6; then the record stays as it was. */
 uint64_t jagwibodu_resize(uint8_t *buffer, size_t length, uint64_t address, uint64_t size);
 
-/* Gives the record at `address` back. Refused with 1, 2, 3 or 5. */
+/* Gives the record at `address` back. Refused with 1, 2, 3 or 5. Records of up to 256 bytes stand in pages of one size
+   class each; a page stays one for its class, even when its last record is gone, until the next sweep. */
 uint64_t jagwibodu_free(uint8_t *buffer, size_t length, uint64_t address);
+
+/* Makes free room again of every page that holds no record, and answers how many these were. The records that are made
+   next then go where most others are, so that the emptier pages may run empty. No record moves and none changes; a
+   second sweep straight after answers 0 and changes no byte. To be called now and then, when many small records have
+   gone. Refused with 1, 2 or 3. */
+uint64_t jagwibodu_sweep(uint8_t *buffer, size_t length);
 
 #ifdef __cplusplus
 }
