@@ -5,4 +5,6 @@ pub mod Leaves
 pub mod GatherLaws
 pub mod Levels
 pub mod LevelLaws
+pub mod Rising
+pub mod ClassLaws
 pub mod LinkLaws

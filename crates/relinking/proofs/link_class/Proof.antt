@@ -1,4 +1,5 @@
-use Rattle.relinking.proofs.LinkLaws.{laid-long, emptied-level, class-linked}
+use Rattle.relinking.proofs.LinkLaws.{laid-long}
+use Rattle.relinking.proofs.ClassLaws.{emptied-level, class-linked}
 use native.Mathlib.Omega.{arith}
 use borrow.Author.Needs.{needs}
 use Rattle.relinking.proofs.link_class.Statement.{statement}

@@ -1,5 +1,5 @@
 use borrow.Author.Needs.{needs}
-use Rattle.relinking.proofs.LinkLaws.{next-start, next-less, next-same, next-done}
+use Rattle.relinking.proofs.Rising.{next-start, next-less, next-same, next-done}
 use Rattle.relinking.specs.Relink.{NextLevel}
 use Prim.Native.Nat.{_-_}
 use mathlib.Core.Path.{refl}

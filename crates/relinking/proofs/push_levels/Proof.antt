@@ -1,4 +1,4 @@
-use Rattle.relinking.proofs.LinkLaws.{Rising, rising-start, rising-level, rising-more, rising-next, rising-length, rising-done}
+use Rattle.relinking.proofs.Rising.{Rising, rising-start, rising-level, rising-more, rising-next, rising-length, rising-done}
 use Rattle.model.proofs.Sizes.{per-page-bound}
 use Prim.Native.Nat.{_-_}
 use native.Mathlib.Omega.{arith}
