@@ -13,7 +13,7 @@ use Rattle.find.specs.declared.Live.the-variants.{Nothing, Item, Variable}
 use Rattle.find.specs.Find.{Finds}
 use Rattle.items.specs.Items.{ItemLive, ItemIn, GaveItem}
 use Rattle.items.proofs.GiveLaws.{live-in, gave-draws, gave-sound}
-use Rattle.releasing.specs.Release.{BlockLive, UsedIn, GivenBack}
+use Rattle.releasing.specs.Release.{BlockLive, BlockIn, GivenBack}
 use Rattle.releasing.proofs.ReleaseLaws.{live-used, freed-draws, freed-sound}
 use Rattle.engine.specs.Free.{isFound, freedBytes, GivesBack}
 use Rattle.engine.specs.Ready.{Ready}
@@ -57,7 +57,7 @@ module _ {w : ℕ} (b : List ℕ) (a : ℕ) (k : Ready w b) (x : Live) (f : (L :
         let g = found-as (Variable y) e (k .sound .layout) (k .sound .here) in
         record { width = k .width; layout = k .sound .layout; here = k .sound .here; short = k .short; address = a; spot = g .0; found = g .1 }
 
-    pub block-used : UsedIn w b y
+    pub block-used : BlockIn w b y
     block-used = live-used block-live
 
     pub free-block : (d : List ℕ) → GivenBack w b y d → GivesBack w b a true d

@@ -7,7 +7,7 @@ use Rattle.model.specs.Layout.{Layout}
 use Rattle.model.specs.Sound.{Here}
 use Rattle.model.specs.Sweeping.{empties, swept}
 use Rattle.model.specs.Calls.{granted, drawnInTurn}
-use Rattle.sweeping.specs.Sweep.{Swept}
+use Rattle.sweeping.specs.Sweep.{SweepDone}
 
-pub swept-rule : (b : List ℕ) (n : ℕ) (c : List ℕ) → Swept 8 b n c → (L : Layout) → Here wide b L → granted n c ≡ granted (empties (L .blocks)) (drawnInTurn wide (swept wide L) b)
+pub swept-rule : (b : List ℕ) (n : ℕ) (c : List ℕ) → SweepDone 8 b n c → (L : Layout) → Here wide b L → granted n c ≡ granted (empties (L .blocks)) (drawnInTurn wide (swept wide L) b)
 swept-rule b n c s L h = ap₂ (λ (x : ℕ) (y : List ℕ). granted x y) (s .count L h) (s .bytes L h)

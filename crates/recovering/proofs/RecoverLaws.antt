@@ -38,7 +38,7 @@ use Rattle.find.specs.declared.UsedBlock.{UsedBlock}
 use Rattle.reading.specs.Counting.{AtPage, PageAt, PageTold}
 use Rattle.reading.specs.declared.counting.Page.{Page}
 use Rattle.reading.proofs.ReadingLaws.{laid-page}
-use Rattle.releasing.specs.Release.{leftAt, leftFree, rightAt, rightFree, InUse, UsedIn, GivenBack}
+use Rattle.releasing.specs.Release.{leftAt, leftFree, rightAt, rightFree, BlockAt, BlockIn, GivenBack}
 use Rattle.releasing.proofs.ReleaseLaws.{Joining, joining, released-blocks}
 use Rattle.model.specs.inner.Links.{linkOf}
 use Rattle.recovering.specs.Recover.{EmptyTold, Recovered}
@@ -184,7 +184,7 @@ module _ {w : ℕ} (wd : Width w) {b₀ : List ℕ} {L : Layout} (h : Here (shap
       bare : heldIn (q .slots) ≡ 0
       bare = a .bare z (q .class) (q .spare) (q .slots) (laid-page wd laid-now (stands (m .passed)) q)
 
-      in-use : InUse w now spot u x
+      in-use : BlockAt w now spot u x
       in-use =
           record {
             blocks = m .passed .blocks ∙ ap (λ (r : List Block). m .pre ++ r) (q .rest);
@@ -195,7 +195,7 @@ module _ {w : ℕ} (wd : Width w) {b₀ : List ℕ} {L : Layout} (h : Here (shap
             touches = m .touches ∙ ap flag (sym et);
           }
 
-      pub page-used : UsedIn w b x
+      pub page-used : BlockIn w b x
       page-used = record { width = wd; layout = now; laid = laid-now; short = rw same short; spot = spot; block = u; in-use = in-use }
 
       -- the heap then: its layout, its bytes, and the joined block in it

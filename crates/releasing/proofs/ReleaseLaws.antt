@@ -32,7 +32,7 @@ use Rattle.model.proofs.blocks.Releasing.{Side, nobody, neighbour, left-side, r
 use Rattle.find.specs.declared.UsedBlock.{UsedBlock}
 use Rattle.find.specs.Find.{BlockFound}
 use Rattle.links.specs.Links.{LinkRoom, freeWords, linkedBytes}
-use Rattle.releasing.specs.Release.{leftAt, leftFree, rightAt, rightFree, RightRoom, InUse, UsedIn, GivenBack, BlockLive}
+use Rattle.releasing.specs.Release.{leftAt, leftFree, rightAt, rightFree, RightRoom, BlockAt, BlockIn, GivenBack, BlockLive}
 use Rattle.model.proofs.Sizes.{most-bound}
 
 -- the edges, by cases
@@ -74,7 +74,7 @@ positive : {w : ℕ} → Width w → (x : Block) → Allowed (shape w) x → 0 <
 positive wd x a = omega (arith, sizes wd x a .0)
 
 -- what code knows of the block x that was found
-module _ {w : ℕ} (wd : Width w) (b : List ℕ) (L : Layout) (t : Spot) (u : Use) (x : UsedBlock) (h : Laid w b L) (f : InUse w L t u x) where
+module _ {w : ℕ} (wd : Width w) (b : List ℕ) (L : Layout) (t : Spot) (u : Use) (x : UsedBlock) (h : Laid w b L) (f : BlockAt w L t u x) where
   pub at : ℕ
   at = x .at .0
 
@@ -254,7 +254,7 @@ module _ {w : ℕ} (wd : Width w) (b : List ℕ) (L : Layout) (t : Spot) (u : Us
       }
 
 -- what is written for the joined block
-module _ {w : ℕ} (wd : Width w) (b : List ℕ) (L : Layout) (t : Spot) (u : Use) (x : UsedBlock) (from to before behind : ℕ) (h : Laid w b L) (f : InUse w L t u x) (j : Joining w b L t from to before behind) where
+module _ {w : ℕ} (wd : Width w) (b : List ℕ) (L : Layout) (t : Spot) (u : Use) (x : UsedBlock) (from to before behind : ℕ) (h : Laid w b L) (f : BlockAt w L t u x) (j : Joining w b L t from to before behind) where
   abbrev three-blocks : List Block
   three-blocks = j .lefts ++ (used u ∷ j .rights)
 
@@ -307,7 +307,7 @@ module _ {w : ℕ} (wd : Width w) (b : List ℕ) (L : Layout) (t : Spot) (u : Us
       }
 
 -- what code reads and writes, in its own numbers
-module _ {w : ℕ} (b : List ℕ) (x : UsedBlock) (k : UsedIn w b x) where
+module _ {w : ℕ} (b : List ℕ) (x : UsedBlock) (k : BlockIn w b x) where
   stands : Middle (shape w) b (endOf (length b)) (k .layout .lists) (k .spot .pre) (used (k .block) ∷ []) (k .spot .post) (x .at .0) (x .at .0 + x .size) (x .prev .0) (firstFree (shape w) (x .at .0 + x .size) (k .spot .post) 0)
   stands = self (k .width) b (k .layout) (k .spot) (k .block) x (k .laid) (k .in-use)
 
@@ -345,7 +345,7 @@ module _ {w : ℕ} (b : List ℕ) (x : UsedBlock) (k : UsedIn w b x) where
 
   module _ (next from to before behind : ℕ) (en : next ≡ wordAt w b (linkOf (shape w) (x .prev .0))) (ef : from ≡ leftAt (x .at .0) (x .prev .0) (x .touching)) (eb : before ≡ leftFree w b (x .at .0) (x .prev .0) (x .touching)) (et : to ≡ rightAt w b (x .at .0 + x .size) next)
       (eh : behind ≡ rightFree w b (x .at .0 + x .size) next) where
-    join : (L : Layout) (t : Spot) (u : Use) → Laid w b L → InUse w L t u x → Joining w b L t from to before behind
+    join : (L : Layout) (t : Spot) (u : Use) → Laid w b L → BlockAt w L t u x → Joining w b L t from to before behind
     join L t u h f = joining (k .width) b L t u x h f next from to before behind en ef eb et eh
 
     pub release-room : LinkRoom w b from to before behind
@@ -358,7 +358,7 @@ module _ {w : ℕ} (b : List ℕ) (x : UsedBlock) (k : UsedIn w b x) where
 
 -- a variable block that was found is one in use
 module _ {w : ℕ} (wd : Width w) (L : Layout) (a : ℕ) (t : Spot) (x : UsedBlock) (f : BlockFound w L a t x) where
-  pub found-in-use : InUse w L t (variable (t .size)) x
+  pub found-in-use : BlockAt w L t (variable (t .size)) x
   unfolding useSize
   found-in-use =
       record {
@@ -377,7 +377,7 @@ unfolding freed
 freed-draws wd {x = x} g L a t h f = g .draws L t (variable (t .size)) (laid wd h) (found-in-use wd L a t x f)
 
 module _ {w : ℕ} {b : List ℕ} {x : UsedBlock} (k : BlockLive w b x) where
-  pub live-used : UsedIn w b x
+  pub live-used : BlockIn w b x
   live-used =
       record {
         width = k .width;

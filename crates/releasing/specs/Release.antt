@@ -45,7 +45,7 @@ pub record RightRoom (w : ℕ) (b : List ℕ) (q next : ℕ) : Type 0 where
   pub block : next ≡ q → (tags (shape w) ≤ wordAt w b q) × (q + wordAt w b q ≤ length b)
 
 -- x is the block in use u of the spot t
-pub record InUse (w : ℕ) (L : Layout) (t : Spot) (u : Use) (x : UsedBlock) : Type 0 where
+pub record BlockAt (w : ℕ) (L : Layout) (t : Spot) (u : Use) (x : UsedBlock) : Type 0 where
   pub blocks : L .blocks ≡ t .pre ++ ((used u ∷ []) ++ t .post)
   pub fits : useSize (shape w) u ≡ t .size
   pub at : ends (shape w) (start (shape w)) (t .pre) ≡ x .at .0
@@ -54,18 +54,18 @@ pub record InUse (w : ℕ) (L : Layout) (t : Spot) (u : Use) (x : UsedBlock) : T
   pub touches : endsFree 0 (t .pre) ≡ flag (x .touching)
 
 -- x is a block in use of a heap, whatever its lists name
-pub record UsedIn (w : ℕ) (b : List ℕ) (x : UsedBlock) : Type 0 where
+pub record BlockIn (w : ℕ) (b : List ℕ) (x : UsedBlock) : Type 0 where
   pub width : Width w
   pub layout : Layout
   pub laid : Laid w b layout
   pub short : length b ≤ shape w .most
   pub spot : Spot
   pub block : Use
-  pub in-use : InUse w layout spot block x
+  pub in-use : BlockAt w layout spot block x
 
 -- the heap with it given back
 pub record GivenBack (w : ℕ) (b : List ℕ) (x : UsedBlock) (c : List ℕ) : Type 0 where
-  pub draws : (L : Layout) (t : Spot) (u : Use) → Laid w b L → InUse w L t u x → c ≡ drawn (shape w) (record { blocks = released t; lists = L .lists }) b
+  pub draws : (L : Layout) (t : Spot) (u : Use) → Laid w b L → BlockAt w L t u x → c ≡ drawn (shape w) (record { blocks = released t; lists = L .lists }) b
 
 -- x is a live block of a sound heap
 pub record BlockLive (w : ℕ) (b : List ℕ) (x : UsedBlock) : Type 0 where

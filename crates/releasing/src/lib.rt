@@ -8,7 +8,7 @@ use model::previous_at;
 use words::word;
 ghost use mathlib.Core.Path.{_≡_};
 ghost use Prim.Native.Nat.{_+_};
-ghost use Rattle.releasing.specs.Release.{LeftRoom, RightRoom, leftAt, leftFree, rightAt, rightFree, UsedIn, GivenBack};
+ghost use Rattle.releasing.specs.Release.{LeftRoom, RightRoom, leftAt, leftFree, rightAt, rightFree, BlockIn, GivenBack};
 
 // Where a joined block begins or ends, and the free block beyond that (0: none).
 pub struct Edge {
@@ -46,7 +46,7 @@ pub fn right_edge(w: usize, h: &[u8], q: Position, next: Position) -> Edge
 
 // Gives the block x back.
 pub fn release(w: usize, h: &mut [u8], x: UsedBlock)
-    requires { ⌜ UsedIn w (now h) x ⌝ }
+    requires { ⌜ BlockIn w (now h) x ⌝ }
     ensures { λ _. ⌜ GivenBack w (now (h .entry)) x (now (h .exit)) ⌝ }
 {
     let q = Position(x.at.0 + x.size);

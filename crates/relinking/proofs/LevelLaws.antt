@@ -15,7 +15,7 @@ use Rattle.model.specs.Reading.{heldIn}
 use Rattle.model.specs.Sweeping.{idleWith}
 use Rattle.model.specs.inner.Laid.{Laid}
 use Rattle.model.proofs.walks.Totals.{held-few}
-use Rattle.relinking.specs.Relink.{liveRoom, entryOf, pageIn, liveIn, Leaf, leaves, PageThere, inFront, Became, OnPage, PagePushed, Gathered, LevelReady, LevelPushed}
+use Rattle.relinking.specs.Relink.{liveRoom, entryOf, pageIn, liveIn, Leaf, leaves, PageThere, inFront, Became, PageReady, PagePushed, Gathered, LevelReady, LevelPushed}
 use Rattle.relinking.proofs.Front.{became-length, became-start, front-none, front-then}
 use Rattle.relinking.proofs.PageItems.{page-count, there-listing}
 use Rattle.relinking.proofs.Leaves.{live-room, entry-page, entry-live, length-entries}
@@ -123,7 +123,7 @@ module _ {w : ℕ} {b : List ℕ} {c : ℕ} {table : List ℕ} {m k : ℕ} {h : 
           ∙ sym (level-other (shape w) k c j (pages w c L) (in-leaves (v .heap .width) y g j lj) (λ z. not (en ∙ held-is ∙ z))) in
           subst (λ (l : List ℕ). Became w b (inFront c l L) h) same (v .became L y g)
 
-    pub level-page : (p : ℕ) → p ≡ pageIn e → OnPage w h p c
+    pub level-page : (p : ℕ) → p ≡ pageIn e → PageReady w h p c
     level-page p ep =
         let r = v .heap in
         let z = v .became (r .layout) (r .laid) (r .gathered) in

@@ -19,7 +19,7 @@ use Rattle.items.proofs.GiveLaws.{Numbers, give-numbers, give-at}
 use native.Mathlib.Nat.{mul-le-mul-left}
 use Rattle.model.proofs.items.Items.{blocks-range}
 use Rattle.items.specs.Items.{ItemIn, GaveItem}
-use Rattle.relinking.specs.Relink.{PageThere, inFront, Became, OnPage, PagePushed}
+use Rattle.relinking.specs.Relink.{PageThere, inFront, Became, PageReady, PagePushed}
 use Rattle.relinking.proofs.Front.{became-length, became-bytes, became-start, front-none, push-front}
 use Rattle.relinking.proofs.PageItems.{item-word, said-idle, said-held, idle-first, held-first, page-few, page-count, page-inside, page-shown, item-in, item-stays, item-even, there-listing}
 
@@ -29,7 +29,7 @@ from w first c i ss = idleSlots (shape w) c (first + i * itemSize (shape w) c) (
 
 -- those from number `left` on, whose header stands at q, are pushed
 pub record Pushing (w : ℕ) (b : List ℕ) (c size first : ℕ) (h : List ℕ) (q : ℕ) : Type 0 where
-  pub page : OnPage w b (first - w) c
+  pub page : PageReady w b (first - w) c
   pub bytes : Bytes b
   pub low : w ≤ first
   pub step : size ≡ itemSize (shape w) c
@@ -38,7 +38,7 @@ pub record Pushing (w : ℕ) (b : List ℕ) (c size first : ℕ) (h : List ℕ) 
   pub at : q ≡ first + left * itemSize (shape w) c
   pub became : (L : Layout) (ss : List Slot) → Laid w b L → PageThere w L (first - w) c ss → Became w b (inFront c (from w first c left ss) L) h
 
-module _ {w : ℕ} {b : List ℕ} {p c : ℕ} (k : OnPage w b p c) where
+module _ {w : ℕ} {b : List ℕ} {p c : ℕ} (k : PageReady w b p c) where
   pub on-class : c < shape w .classes
   on-class = page-few (k .width) (k .laid) (k .there)
 
@@ -54,7 +54,7 @@ module _ {w : ℕ} {b : List ℕ} {p c : ℕ} (k : OnPage w b p c) where
   pushing-start bytes size n first q es en ef eq =
       let z : p ≡ first - w = omega arith in
       record {
-        page = subst (λ (y : ℕ). OnPage w b y c) z k;
+        page = subst (λ (y : ℕ). PageReady w b y c) z k;
         bytes = bytes;
         low = omega arith;
         step = es;
@@ -170,7 +170,7 @@ pub record Carrying (w : ℕ) (b : List ℕ) (c size at first : ℕ) (h : List �
   pub fits : head < 256 ^ w
   pub pushing : Pushing w b c size first (put w h at head) q
 
-module _ {w : ℕ} {b : List ℕ} {p c : ℕ} (k : OnPage w b p c) where
+module _ {w : ℕ} {b : List ℕ} {p c : ℕ} (k : PageReady w b p c) where
   pub carrying-start : Bytes b → (size n at first head q : ℕ) → size ≡ itemSize (shape w) c → n ≡ shape w .perPage c → at ≡ headAt (shape w) c → first ≡ firstItemAt (shape w) p → head ≡ wordAt w b at → q ≡ first + n * size
       → Carrying w b c size at first b head q
   carrying-start bytes size n at first head q es en ea ef eh eq =

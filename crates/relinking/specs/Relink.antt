@@ -84,7 +84,7 @@ pub record Ready (w : ℕ) (b : List ℕ) : Type 0 where
   pub short : length b ≤ shape w .most
 
 -- a page of class c stands at p in it
-pub record OnPage (w : ℕ) (b : List ℕ) (p c : ℕ) : Type 0 where
+pub record PageReady (w : ℕ) (b : List ℕ) (p c : ℕ) : Type 0 where
   pub width : Width w
   pub layout : Layout
   pub laid : Laid w b layout

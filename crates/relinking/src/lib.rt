@@ -28,7 +28,7 @@ ghost use Prim.Native.Nat.{_≤_, _<_, _^_};
 ghost use lib.ListN.{length};
 ghost use Rattle.model.specs.Layout.{Layout};
 ghost use Rattle.model.specs.inner.Laid.{Laid};
-ghost use Rattle.relinking.specs.Relink.{liveRoom, entryOf, pageIn, liveIn, Roomy, NextLevel, EmptyBelow, OnPage, PagePushed, AtBlock, EntryTold, Ready, Gathered, LevelReady, LevelPushed, LevelsPushed, ClassReady, ClassLinked, LinkReady, Linked};
+ghost use Rattle.relinking.specs.Relink.{liveRoom, entryOf, pageIn, liveIn, Roomy, NextLevel, EmptyBelow, PageReady, PagePushed, AtBlock, EntryTold, Ready, Gathered, LevelReady, LevelPushed, LevelsPushed, ClassReady, ClassLinked, LinkReady, Linked};
 
 // A page has fewer live items than this, so its position and they make one number.
 const LIVE_ROOM: usize = 4294967296;
@@ -54,7 +54,7 @@ fn live_in(e: usize) -> usize
 
 // The free items of the page of class c at p go to the head of their list, from the last to the first. The head itself is written at the end.
 fn push_page(w: usize, h: &mut [u8], p: Position, c: usize)
-    requires { ⌜ OnPage w (now h) (p .0) c ⌝ }
+    requires { ⌜ PageReady w (now h) (p .0) c ⌝ }
     ensures { λ _. ⌜ PagePushed w (now (h .entry)) (p .0) c (now (h .exit)) ⌝ }
 {
     let size = item_size(w, c);

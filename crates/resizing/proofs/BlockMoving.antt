@@ -22,7 +22,7 @@ use Rattle.engine.specs.declared.allocate.Taken.the-variants.{At}
 use Rattle.resizing.specs.declared.resize.Resized.the-variants as to
 use Rattle.engine.specs.Allocate.{Asked}
 use Rattle.find.specs.Find.{BlockFound}
-use Rattle.releasing.specs.Release.{UsedIn, GivenBack}
+use Rattle.releasing.specs.Release.{BlockIn, GivenBack}
 use Rattle.releasing.proofs.ReleaseLaws.{live-used, freed-draws}
 use Rattle.moving.specs.Move.{Carried}
 use Rattle.resizing.specs.Ways.{ByWay}
@@ -55,7 +55,7 @@ module _ {w : ℕ} {b : List ℕ} {a n : ℕ} {x : UsedBlock} (i : BlockLiveAt w
         let st : Stands (shape w) (after L h) (x .at .0) (x .size) (y .prev .0) (flag (y .touching)) = y′ .stands (after L h) (here-after L h) (mends L h) in
         stands-found (i .ready .width) c (after L h) a y (here-after L h) (omega (arith, k .at, f .1 .at, y′ .at)) (rw (y′ .at, y′ .size) st)
 
-    pub found-again : length c ≡ length b → UsedIn w c y
+    pub found-again : length c ≡ length b → BlockIn w c y
     found-again l =
         let L = i .ready .sound .layout in
         let h = i .ready .sound .here in

@@ -9,7 +9,7 @@ use Rattle.model.specs.Layout.{Layout}
 use Rattle.model.specs.Sound.{Here, Sound}
 use Rattle.recovering.specs.Recover.{Recovered}
 use Rattle.relinking.specs.Relink.{LinkReady, Linked}
-use Rattle.sweeping.specs.Sweep.{Swept}
+use Rattle.sweeping.specs.Sweep.{SweepDone}
 
 module _ {w : ℕ} {b : List ℕ} {n : ℕ} {c : List ℕ} (g : (L : Layout) → Here (shape w) b L → Recovered w b L n c) where
   -- once pages are given back, lists can be linked anew
@@ -19,7 +19,7 @@ module _ {w : ℕ} {b : List ℕ} {n : ℕ} {c : List ℕ} (g : (L : Layout) →
       record { width = wd; layout = r .layout; linkable = r .linkable; short = rw (r .same) short }
 
   -- and then the sweep is done
-  pub swept-so : (d : List ℕ) → Linked w c d → Swept w b n d
+  pub swept-so : (d : List ℕ) → Linked w c d → SweepDone w b n d
   swept-so d k =
       record {
         count = λ L h. g L h .count;

@@ -8,6 +8,6 @@ use Rattle.model.specs.Sound.{Here}
 use Rattle.model.specs.Sweeping.{empties, swept}
 use Rattle.model.specs.Calls.{drawnInTurn}
 
-pub record Swept (w : ℕ) (b : List ℕ) (n : ℕ) (c : List ℕ) : Type 0 where
+pub record SweepDone (w : ℕ) (b : List ℕ) (n : ℕ) (c : List ℕ) : Type 0 where
   pub count : (L : Layout) → Here (shape w) b L → n ≡ empties (L .blocks)
   pub bytes : (L : Layout) → Here (shape w) b L → c ≡ drawnInTurn (shape w) (swept (shape w) L) b
