@@ -17,7 +17,7 @@ use Rattle.model.specs.inner.Headers.{leastHeader, SameClass}
 use Rattle.model.specs.Layout.{Slot, idle, held, Use, variable, page, used, useSize, sizeOf}
 use Rattle.model.specs.Sound.{Within, AllWithin, Allowed, AllowedUse, idleSlots}
 use Rattle.model.proofs.items.Asked.{idle-within}
-use Rattle.model.proofs.Sizes.{per-page-bound, page-items-bound, page-product, class-few, class-held, page-eight, first-even}
+use Rattle.model.proofs.Sizes.{one-less, per-page-bound, page-items-bound, page-product, class-few, class-held, page-eight, first-even}
 use Rattle.model.proofs.walks.Standing.{sizes}
 use Rattle.marking.specs.Uses.{Slots, Items, Right, AllRight, classAt, PageRight, useKind, Headers, UseAt, freeIn}
 use Rattle.marking.specs.Maps.{NoMarks, offsetBit, atBit, mapEnd}
@@ -99,10 +99,6 @@ items-first {w} {i = i} {stop = stop} {c = c} r = go (decLe stop i)
     go (yes h) = absurd (omega (arith, bits-order (r .width) stop i h, r .stops, mul-le-mul-right (itemSize (shape w) c) (per-page-bound (r .width) c .0)))
     go (no h) = omega (arith, h)
 
-pred-mul : (m k : ℕ) → (m ≡ 0 → ⊥) → k + (m - 1) * k ≡ m * k
-pred-mul zero k z = absurd (z refl)
-pred-mul (suc m) k z = let e : suc m - 1 ≡ m = omega arith in rw e (omega arith)
-
 module _ {w : ℕ} {b m₀ : List ℕ} {first stop c : ℕ} {m : List ℕ} {n wrong above i : ℕ} (v : ItemsInv w b m₀ first stop c m n wrong above i) where
   -- a bit before another is that of an earlier item
   at-less : i < stop → atBit w i < atBit w stop
@@ -112,7 +108,7 @@ module _ {w : ℕ} {b m₀ : List ℕ} {first stop c : ℕ} {m : List ℕ} {n wr
   items-some h e = omega (arith, ap (λ (x : ℕ). atBit w i + x * itemSize (shape w) c) e, v .stops, at-less h)
 
   pub items-fit : i < stop → atBit w i + itemSize (shape w) c ≤ atBit w stop
-  items-fit h = omega (arith, v .stops, pred-mul (v .left) (itemSize (shape w) c) (items-some h))
+  items-fit h = omega (arith, v .stops, one-less (v .left) (itemSize (shape w) c) (items-some h))
 
   -- the bit of the next item, which is s words on
   pub items-next : i < stop → (s : ℕ) → s ≡ itemSize (shape w) c / w → MapSize (length m₀) → (i < i + s) × (i + s ≤ stop) × (i + s < 2 ^ 32) × (atBit w i < 2 ^ 32)
@@ -137,7 +133,7 @@ module _ {w : ℕ} {b m₀ : List ℕ} {first stop c : ℕ} {m : List ℕ} {n wr
         record {
           width = v .width;
           left = v .left - 1;
-          stops = omega (arith, next-at, v .stops, pred-mul (v .left) (itemSize (shape w) c) (items-some h));
+          stops = omega (arith, next-at, v .stops, one-less (v .left) (itemSize (shape w) c) (items-some h));
           ahead = λ k. rw next-at (items-in b c (atBit w i) (v .left) (items-some h) (v .ahead k) .1);
           rights = right-next;
           near = λ z r. let k = or-near above y z in v .near (k .0) (right-out w b c (atBit w i) (v .left) (items-some h) (subst (λ (z : ℕ). Right c z) e (λ g. near-right c x y few fits ey (k .1))) (rw next-at at r));
@@ -170,7 +166,7 @@ module _ {w : ℕ} {b m₀ : List ℕ} {first stop c : ℕ} {m : List ℕ} {n wr
           record {
             width = v .width;
             left = v .left - 1;
-            stops = omega (arith, next-at, v .stops, pred-mul (v .left) (itemSize (shape w) c) (items-some h));
+            stops = omega (arith, next-at, v .stops, one-less (v .left) (itemSize (shape w) c) (items-some h));
             ahead = λ k. rw next-at (items-in b c (atBit w i) (v .left) (items-some h) (v .ahead k) .1);
             rights = right-next;
             near = λ z r. v .near z (right-out w b c (atBit w i) (v .left) (items-some h) (subst (λ (z : ℕ). Right c z) e not-held) (rw next-at at r));

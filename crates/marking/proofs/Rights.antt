@@ -14,7 +14,7 @@ use Rattle.model.specs.Parts.{heldHeader, classIn, firstItemAt}
 use Rattle.model.specs.Layout.{Slot, idle, held}
 use Rattle.model.specs.Sound.{Within, AllWithin}
 use Rattle.model.specs.inner.Headers.{leastHeader, SameClass}
-use Rattle.model.proofs.Sizes.{flags-idle}
+use Rattle.model.proofs.Sizes.{one-less, flags-idle}
 use Rattle.marking.specs.Uses.{Slots, Items, Right, AllRight, classAt, PageRight}
 use Rattle.marking.specs.Told.{PageItems, RightTold}
 use Rattle.words.proofs.YesNo.{yes-no}
@@ -89,13 +89,9 @@ pub record RightInv (w : ℕ) (b : List ℕ) (c size first n q left : ℕ) : Typ
   pub ahead : AllRight w b c first n → AllRight w b c q left
   pub back : AllRight w b c q left → AllRight w b c first n
 
-less-mul : (left s : ℕ) → (left ≡ 0 → ⊥) → s + (left - 1) * s ≡ left * s
-less-mul zero s z = absurd (z refl)
-less-mul (suc k) s z = let e : suc k - 1 ≡ k = omega arith in rw e (omega arith)
-
 module _ {w : ℕ} {b : List ℕ} {c size first n q left : ℕ} (v : RightInv w b c size first n q left) where
   pub right-inside : (left ≡ 0 → ⊥) → (q + w ≤ length b) × (q + size ≤ length b)
-  right-inside z = (omega (arith, v .room, less-mul left (itemSize (shape w) c) z), omega (arith, v .room, v .item-size, less-mul left (itemSize (shape w) c) z))
+  right-inside z = (omega (arith, v .room, one-less left (itemSize (shape w) c) z), omega (arith, v .room, v .item-size, one-less left (itemSize (shape w) c) z))
 
   pub right-again : (left ≡ 0 → ⊥) → (x : ℕ) → x ≡ wordAt w b q → Right c x → RightInv w b c size first n (q + size) (left - 1)
   right-again z x e f =
@@ -103,7 +99,7 @@ module _ {w : ℕ} {b : List ℕ} {c size first n q left : ℕ} (v : RightInv w 
       record {
         width = v .width;
         item-size = refl;
-        room = omega (arith, v .room, less-mul left (itemSize (shape w) c) z);
+        room = omega (arith, v .room, one-less left (itemSize (shape w) c) z);
         ahead = λ r. right-in w b c q left z (v .ahead r) .1;
         back = λ r. v .back (right-out w b c q left z (subst (λ (y : ℕ). Right c y) e f) r);
       }

@@ -1,5 +1,5 @@
 -- Laws of the sizes of blocks, items and pages.
-use Prim.Native.Nat.{ℕ, _+_, _-_, _*_, _/_, _%_, _≤_, _<_, _^_}
+use Prim.Native.Nat.{ℕ, zero, suc, _+_, _-_, _*_, _/_, _%_, _≤_, _<_, _^_}
 use mathlib.Core.Path.{_≡_, refl}
 use native.Mathlib.Nat.{div-le-self, div-mul-le-self, mul-le-mul-left}
 use native.Mathlib.Omega.{arith}
@@ -15,6 +15,11 @@ up-above k n l = omega arith
 -- what is rounded up and holds two tags is a multiple of 8
 pub need-eight : (n t : ℕ) → t % 8 ≡ 0 → (up8 n + t) % 8 ≡ 0
 need-eight n t e = omega arith
+
+-- one item and those after it take as much as all
+pub one-less : (left s : ℕ) → (left ≡ 0 → ⊥) → s + (left - 1) * s ≡ left * s
+one-less zero s z = absurd (z refl)
+one-less (suc k) s z = let e : suc k - 1 ≡ k = omega arith in rw e (omega arith)
 
 -- document 01's word, and the hand unit's
 pub eight : Width 8

@@ -18,7 +18,7 @@ use Rattle.model.proofs.items.Aligned.{next-even, class-read, laid}
 use Rattle.model.proofs.walks.Passing.{stands, passed-allowed, gone-start, gone-on, gone-done}
 use Rattle.model.specs.inner.Walks.{Standing, Gone}
 use Rattle.model.specs.inner.Laid.{Laid}
-use Rattle.model.proofs.Sizes.{per-page-bound}
+use Rattle.model.proofs.Sizes.{one-less, per-page-bound}
 use Rattle.model.proofs.walks.Totals.{held-few}
 use Rattle.reading.specs.declared.counting.Page.{Page}
 use Rattle.reading.specs.Counting.{heldFrom, PageAt, AtPage, PageTold, Going}
@@ -48,12 +48,6 @@ held-turn w b c q left l = go (left - 1) (omega arith) refl
   where
     go : (k : ℕ) → left ≡ suc k → left - 1 ≡ k → heldFrom w b c q left ≡ usedIn (wordAt w b q) + heldFrom w b c (q + itemSize (shape w) c) (left - 1)
     go k e f = rw (f, e)
-
-pub one-less : (left s : ℕ) → (left ≡ 0 → ⊥) → s + (left - 1) * s ≡ left * s
-one-less left s l = go (left - 1) (omega arith) refl
-  where
-    go : (k : ℕ) → left ≡ suc k → left - 1 ≡ k → s + (left - 1) * s ≡ left * s
-    go k e f = rw (f, e) (omega arith)
 
 module _ {w : ℕ} {b : List ℕ} {c first n size q left held : ℕ} (i : Held w b c first n size q left held) where
   pub held-inside : (left ≡ 0 → ⊥) → q + w ≤ length b

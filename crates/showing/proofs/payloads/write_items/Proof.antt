@@ -2,7 +2,7 @@ use Prim.Native.Nat.{_+_, _*_, _≤_, _<_}
 use mathlib.Core.Path.{_≡_}
 use lib.ListN.{length}
 use Rattle.model.specs.Shape.{wide, itemSize}
-use Rattle.reading.proofs.ReadingLaws.{one-less}
+use Rattle.model.proofs.Sizes.{one-less}
 use native.Mathlib.Omega.{arith}
 use borrow.Author.Needs.{needs}
 use Rattle.showing.proofs.payloads.write_items.Statement.{statement}
