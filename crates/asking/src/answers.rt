@@ -1,32 +1,38 @@
-// The kinds of questions, each a public call of `heap` or the report of `showing`, and their lines.
+// The kinds of questions, each a call of `serving` or the report of `showing`, and their lines. The first 8 bytes of a heap tell the word size.
 use crate::input::stop;
 use crate::payload::sum_of;
 use crate::payload::turn_over;
-use heap::Walk;
-use heap::class_table;
-use heap::look_up;
-use heap::look_up_mut;
-use heap::look_up_refusal;
-use heap::statistics;
 use model::Address;
 use model::MOST_CLASSES;
 use model::Position;
 use reading::stepping::Kind;
+use serving::counting::class_table;
+use serving::counting::statistics;
+use serving::lookup::look_up;
+use serving::lookup::look_up_mut;
+use serving::lookup::look_up_refusal;
+use serving::walking::Walk;
 use showing::text::write;
 use showing::text::write_number;
+use showing::word_size;
 use showing::write_report;
+ghost use Rattle.words.specs.Width.{Width};
 
 // Look-up: the refusal number; how many bytes the payload has, and their sum.
-fn answer_look_up(h: &[u8], a: Address) {
-    write_number(b"", look_up_refusal(h, a));
-    let part = look_up(h, a);
+fn answer_look_up(w: usize, h: &[u8], a: Address)
+    requires { ⌜ Width w ⌝ }
+{
+    write_number(b"", look_up_refusal(w, h, a));
+    let part = look_up(w, h, a);
     write_number(b" ", part.len() as u64);
     write_number(b" ", sum_of(part));
 }
 
 // Look-up for writing: how many bytes the payload has. All are turned over.
-fn answer_turned(h: &mut [u8], a: Address) {
-    let part = look_up_mut(h, a);
+fn answer_turned(w: usize, h: &mut [u8], a: Address)
+    requires { ⌜ Width w ⌝ }
+{
+    let part = look_up_mut(w, h, a);
     write_number(b"", part.len() as u64);
     turn_over(part);
 }
@@ -45,8 +51,10 @@ fn write_kind(kind: Kind) {
 }
 
 // A step of a walk: the refusal number; where the walk then stands; the block's position and size, and what it is.
-fn answer_step(h: &[u8], walk: Walk) {
-    let step = walk.step(h);
+fn answer_step(w: usize, h: &[u8], walk: Walk)
+    requires { ⌜ Width w ⌝ }
+{
+    let step = walk.step(w, h);
     write_number(b"", step.refusal);
     let next = step.walk;
     write_number(b" ", next.at.0 as u64);
@@ -58,8 +66,10 @@ fn answer_step(h: &[u8], walk: Walk) {
 }
 
 // Statistics: the refusal number, and the six numbers.
-fn answer_statistics(h: &[u8]) {
-    let counted = statistics(h);
+fn answer_statistics(w: usize, h: &[u8])
+    requires { ⌜ Width w ⌝ }
+{
+    let counted = statistics(w, h);
     write_number(b"", counted.refusal);
     let s = counted.statistics;
     write_number(b" ", s.free_bytes);
@@ -78,8 +88,10 @@ fn write_row(row: [u64; 3]) {
 }
 
 // The table of classes: three numbers a class.
-fn answer_table(h: &[u8]) {
-    let rows = class_table(h);
+fn answer_table(w: usize, h: &[u8])
+    requires { ⌜ Width w ⌝ }
+{
+    let rows = class_table(w, h);
     write(b"classes");
     let mut c = 0;
     while c < MOST_CLASSES {
@@ -90,18 +102,21 @@ fn answer_table(h: &[u8]) {
 
 // A question that only reads: 0 look-up, 1 a walk's step, 2 its first step, 3 statistics, 4 the table of classes, 5 the report.
 // Whether there is such a kind.
-fn answer_reading(h: &[u8], kind: u8, n: u64) -> bool {
+fn answer_reading(w: usize, h: &[u8], kind: u8, n: u64) -> bool
+    requires { ⌜ Width w ⌝ }
+{
     match kind {
-        0 => answer_look_up(h, Address(n as usize)),
+        0 => answer_look_up(w, h, Address(n as usize)),
         1 => answer_step(
+            w,
             h,
             Walk {
                 at: Position(n as usize),
             },
         ),
-        2 => answer_step(h, Walk::start()),
-        3 => answer_statistics(h),
-        4 => answer_table(h),
+        2 => answer_step(w, h, Walk::start(w)),
+        3 => answer_statistics(w, h),
+        4 => answer_table(w, h),
         5 => write_report(h),
         _ => return stop(b"stop: there is no such question\n"),
     }
@@ -112,10 +127,11 @@ fn answer_reading(h: &[u8], kind: u8, n: u64) -> bool {
 // A question of a kind, with a number that is an address, a position or nothing: those that only read, and 6, look-up for writing.
 // Its answer is a line, the report's many. Whether there is such a kind.
 pub fn answer(h: &mut [u8], kind: u8, n: u64) -> bool {
+    let w = word_size(h);
     if kind == 6 {
-        answer_turned(h, Address(n as usize));
+        answer_turned(w, h, Address(n as usize));
         write(b"\n");
         return true;
     }
-    answer_reading(h, kind, n)
+    answer_reading(w, h, kind, n)
 }

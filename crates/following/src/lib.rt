@@ -18,8 +18,8 @@ ghost use Rattle.model.specs.Shape.{shape, endOf};
 ghost use Rattle.model.specs.Parts.{headAt};
 ghost use Rattle.following.specs.Told.{NextBit, ListRoom, ListTold};
 
-// What class and flags are moved up by: 2^57, by which the seven bits that they have become the highest of 64.
-const HIGHEST: usize = 144115188075855872;
+// What class and flags are moved up by, times the word size: 2^60. The six or seven bits that they have become the highest of 64.
+const HIGHEST: usize = 1152921504606846976;
 
 // The bit of the item that the header x names. Where x is not a free item's of class c, class and flags of the difference become the highest bits, so that the answer is far beyond every map: one comparison tells both.
 fn next_bit(w: usize, x: usize, c: usize) -> usize
@@ -27,7 +27,7 @@ fn next_bit(w: usize, x: usize, c: usize) -> usize
     ensures { λ r. ⌜ NextBit w x c r ⌝ }
 {
     let y = wrapping_sub_usize(x, free_mark(c));
-    offset_bit(w, next_in(w, y)) + class_and_flags(w, y) * HIGHEST
+    offset_bit(w, next_in(w, y)) + class_and_flags(w, y) * (HIGHEST / w)
 }
 
 // Counts down from before by the items on the list of class c: refuses an item without a mark, and an item more than there are marks, so a ring too.

@@ -1,200 +1,141 @@
-// The heap's calls. Each checks what it is lent: it does what the rule of documents 01 and 02 says, or refuses and leaves every byte.
-pub mod counting;
-pub mod lookup;
-pub mod recovery;
-pub mod resize;
-pub mod walking;
-
-pub use crate::counting::class_table;
-pub use crate::counting::statistics;
-pub use crate::lookup::look_up;
-pub use crate::lookup::look_up_mut;
-pub use crate::lookup::look_up_refusal;
-pub use crate::recovery::Swept;
-pub use crate::recovery::sweep;
-pub use crate::resize::keep;
-pub use crate::resize::relocate;
-pub use crate::resize::resize_in_place;
-pub use crate::walking::Walk;
-use engine::allocate as taking;
-use engine::free as giving;
-use model::ALREADY_OPENED;
+// Document 01's heap: every call, with words of 8 bytes. What a call does is written once, over the word size, in the crates `serving` and `trying`.
+pub use examining::Refusal;
+pub use examining::Verdict;
+pub use examining::refusal_number;
 use model::Address;
-use model::BAD_LENGTH;
-use model::BAD_SIZE;
-use model::MAGIC_BYTES;
-use model::NO_ROOM;
-use model::NOT_LIVE;
-use model::NOT_OPENED;
-use model::NOT_SOUND;
-use model::longest;
-use model::magic;
-use model::shortest;
-use sound::is_sound;
-use words::word;
+use model::MOST_CLASSES;
+pub use serving::Answer;
+pub use serving::counting::Counted;
+pub use serving::recovery::Swept;
+pub use serving::walking::Step;
+pub use serving::walking::Walk;
 ghost use mathlib.Core.Path.{_≡_};
-ghost use Prim.Native.Nat.{_≤_};
-ghost use Rattle.model.specs.Shape.{wide};
-ghost use Rattle.model.specs.Refusals.{alreadyOpened};
-ghost use Rattle.model.specs.Calls.{Lent, GoodSize, Initialises, Checks, Allocates, Frees};
-ghost use Rattle.telling.specs.Tells.{Tells};
-ghost use Rattle.heap.specs.Answers.{Examined, ExaminedFor, answerOf, outcome, refusalNumber};
+ghost use Rattle.model.specs.Shape.{wide, start};
+ghost use Rattle.model.specs.Calls.{Initialises, Checks, Allocates, Frees, ResizesInPlace, Moves, Keeps, Resizes, Sweeps, Steps, Counts};
+ghost use Rattle.examining.specs.Examined.{Examined};
+ghost use Rattle.serving.specs.Answers.{outcome, sweptOutcome};
+ghost use Rattle.serving.specs.Counting.{toldCounted, TableTold};
+ghost use Rattle.serving.specs.Lookup.{Part, RefusalTold};
+ghost use Rattle.serving.specs.Walking.{toldStep};
 
-// The bytes of a word of document 01's heap.
+// The bytes of a word of this heap: all that its calls give to those over the word size.
 pub const WORD: usize = 8;
-
-// Why a call says no, in the order of document 01's numbers, 1 to 7.
-pub enum Refusal {
-    BadLength,
-    NotOpened,
-    NotSound,
-    BadSize,
-    NotLive,
-    NoRoom,
-    AlreadyOpened,
-}
-
-// What a call answers: granted, with an address or with 0 where it gives none; or why not.
-pub enum Answer {
-    Granted(Address),
-    Refused(Refusal),
-}
-
-// What every call but initialise finds first: a sound heap, or a reason to say no.
-pub enum Verdict {
-    Fine,
-    Unfit(Refusal),
-}
-
-// Document 01's number of a refusal.
-pub fn refusal_number(k: Refusal) -> u64
-    ensures { λ r. ⌜ (r ≡ refusalNumber k) × (r ≤ alreadyOpened) ⌝ }
-{
-    match k {
-        Refusal::BadLength => BAD_LENGTH,
-        Refusal::NotOpened => NOT_OPENED,
-        Refusal::NotSound => NOT_SOUND,
-        Refusal::BadSize => BAD_SIZE,
-        Refusal::NotLive => NOT_LIVE,
-        Refusal::NoRoom => NO_ROOM,
-        Refusal::AlreadyOpened => ALREADY_OPENED,
-    }
-}
-
-// Whether the buffer's length is one that a heap may have.
-fn is_lent(h: &[u8]) -> bool
-    ensures { λ r. ⌜ Tells r (Lent wide (now (h .entry))) ⌝ }
-{
-    if h.len() < shortest(WORD) {
-        return false;
-    }
-    h.len() <= longest(WORD)
-}
 
 // Opens a heap in a buffer that holds none yet.
 pub fn initialise(h: &mut [u8]) -> Answer
     ensures { λ r. ⌜ Initialises wide (now (h .entry)) (outcome r (now (h .exit))) ⌝ }
 {
-    if !is_lent(h) {
-        return Answer::Refused(Refusal::BadLength);
-    }
-    if word(MAGIC_BYTES, h, 0) == magic(WORD) {
-        return Answer::Refused(Refusal::AlreadyOpened);
-    }
-    fresh::lay(WORD, h);
-    Answer::Granted(Address(0))
+    serving::initialise(WORD, h)
 }
 
 // The length, the first 8 bytes, and soundness, in that order. Who reads much of a heap asks this once, and then reads by the crate `reading`.
 pub fn examine(h: &[u8]) -> Verdict
-    ensures { λ r. ⌜ Examined (now (h .entry)) r ⌝ }
+    ensures { λ r. ⌜ Examined (wide .word) (now (h .entry)) r ⌝ }
 {
-    if !is_lent(h) {
-        return Verdict::Unfit(Refusal::BadLength);
-    }
-    if word(MAGIC_BYTES, h, 0) != magic(WORD) {
-        return Verdict::Unfit(Refusal::NotOpened);
-    }
-    if !is_sound(WORD, h) {
-        return Verdict::Unfit(Refusal::NotSound);
-    }
-    Verdict::Fine
+    examining::examine(WORD, h)
 }
 
 // Says whether the buffer holds a sound heap.
 pub fn check(h: &[u8]) -> Answer
     ensures { λ r. ⌜ Checks wide (now (h .entry)) (outcome r (now (h .entry))) ⌝ }
 {
-    let v = examine(h);
-    match v {
-        Verdict::Unfit(k) => Answer::Refused(k),
-        Verdict::Fine => Answer::Granted(Address(0)),
-    }
-}
-
-// Whether n bytes can be asked for.
-fn is_size(n: usize) -> bool
-    ensures { λ r. ⌜ Tells r (GoodSize wide n) ⌝ }
-{
-    if n == 0 {
-        return false;
-    }
-    n <= longest(WORD)
-}
-
-// What `examine` finds, and then whether n bytes can be asked for.
-fn examine_for(h: &[u8], n: usize) -> Verdict
-    ensures { λ r. ⌜ ExaminedFor (now (h .entry)) n r ⌝ }
-{
-    let v = examine(h);
-    match v {
-        Verdict::Unfit(k) => Verdict::Unfit(k),
-        Verdict::Fine => {
-            if is_size(n) {
-                return Verdict::Fine;
-            }
-            Verdict::Unfit(Refusal::BadSize)
-        }
-    }
-}
-
-// What an allocation found, as an answer.
-fn granted_or_not(t: taking::Taken) -> Answer
-    ensures { λ r. ⌜ r ≡ answerOf t ⌝ }
-{
-    match t {
-        taking::Taken::At(a) => Answer::Granted(a),
-        taking::Taken::NoRoom => Answer::Refused(Refusal::NoRoom),
-    }
+    serving::check(WORD, h)
 }
 
 // Gives a record of n bytes.
 pub fn allocate(h: &mut [u8], n: usize) -> Answer
     ensures { λ r. ⌜ Allocates wide (now (h .entry)) n (outcome r (now (h .exit))) ⌝ }
 {
-    let v = examine_for(h, n);
-    match v {
-        Verdict::Unfit(k) => Answer::Refused(k),
-        Verdict::Fine => {
-            let t = taking::allocate(WORD, h, n);
-            granted_or_not(t)
-        }
-    }
+    serving::allocate(WORD, h, n)
 }
 
 // Gives back the record at a.
 pub fn free(h: &mut [u8], a: Address) -> Answer
     ensures { λ r. ⌜ Frees wide (now (h .entry)) (a .0) (outcome r (now (h .exit))) ⌝ }
 {
-    let v = examine(h);
-    match v {
-        Verdict::Unfit(k) => Answer::Refused(k),
-        Verdict::Fine => {
-            let done = giving::free(WORD, h, a);
-            if done {
-                return Answer::Granted(Address(0));
-            }
-            Answer::Refused(Refusal::NotLive)
-        }
-    }
+    serving::free(WORD, h, a)
+}
+
+// Makes the record at a one of n bytes where it stands, or says 6: then it cannot stay.
+pub fn resize_in_place(h: &mut [u8], a: Address, n: usize) -> Answer
+    ensures { λ r. ⌜ ResizesInPlace wide (now (h .entry)) (a .0) n (outcome r (now (h .exit))) ⌝ }
+{
+    serving::resize::resize_in_place(WORD, h, a, n)
+}
+
+// Makes the record at a one of n bytes elsewhere, always, or says 6: then an allocation of n bytes finds nothing.
+pub fn relocate(h: &mut [u8], a: Address, n: usize) -> Answer
+    ensures { λ r. ⌜ Moves wide (now (h .entry)) (a .0) n (outcome r (now (h .exit))) ⌝ }
+{
+    serving::resize::relocate(WORD, h, a, n)
+}
+
+// Says that the record at a stays as it is, since it holds n bytes already, or says 6.
+pub fn keep(h: &[u8], a: Address, n: usize) -> Answer
+    ensures { λ r. ⌜ Keeps wide (now (h .entry)) (a .0) n (outcome r (now (h .entry))) ⌝ }
+{
+    serving::resize::keep(WORD, h, a, n)
+}
+
+// Makes the record at a one of n bytes, there or elsewhere; where there is no room, one that holds n bytes already stays as it is.
+pub fn resize(h: &mut [u8], a: Address, n: usize) -> Answer
+    ensures { λ r. ⌜ Resizes wide (now (h .entry)) (a .0) n (outcome r (now (h .exit))) ⌝ }
+{
+    trying::resize(WORD, h, a, n)
+}
+
+// Gives back the pages with no live record, and links every class's list anew, fullest pages first.
+pub fn sweep(h: &mut [u8]) -> Swept
+    ensures { λ r. ⌜ Sweeps wide (now (h .entry)) (sweptOutcome r (now (h .exit))) ⌝ }
+{
+    serving::recovery::sweep(WORD, h)
+}
+
+// What is live at a: of an item as many bytes as were asked for, of a block its whole capacity; empty where refused.
+pub fn look_up(h: &[u8], a: Address) -> &[u8]
+    ensures { λ r. ⌜ Part (wide .word) (h .entry) (a .0) r ⌝ }
+{
+    serving::lookup::look_up(WORD, h, a)
+}
+
+// The same part, lent for writing.
+pub fn look_up_mut(h: &mut [u8], a: Address) -> &mut [u8]
+    ensures { λ r. ⌜ Part (wide .word) (h .entry) (a .0) r ⌝ }
+{
+    serving::lookup::look_up_mut(WORD, h, a)
+}
+
+// The refusal number of both.
+pub fn look_up_refusal(h: &[u8], a: Address) -> u64
+    ensures { λ r. ⌜ RefusalTold (wide .word) (now (h .entry)) (a .0) r ⌝ }
+{
+    serving::lookup::look_up_refusal(WORD, h, a)
+}
+
+// A walk at the data area's start.
+pub fn start_walk() -> Walk
+    ensures { λ r. ⌜ r .at .0 ≡ start wide ⌝ }
+{
+    Walk::start(WORD)
+}
+
+// The block at which a walk stands, and the walk behind it; where none begins, or where refused, the end, and the walk stays.
+pub fn step(walk: Walk, h: &[u8]) -> Step
+    ensures { λ r. ⌜ Steps wide (now (h .entry)) (walk .at .0) (toldStep r) ⌝ }
+{
+    walk.step(WORD, h)
+}
+
+// Free bytes, free blocks, the largest free block, variable blocks, pages and live items.
+pub fn statistics(h: &[u8]) -> Counted
+    ensures { λ r. ⌜ Counts wide (now (h .entry)) (toldCounted r) ⌝ }
+{
+    serving::counting::statistics(WORD, h)
+}
+
+// For each class its pages, its live items and its free items; zeros where refused, and of classes that there are not.
+pub fn class_table(h: &[u8]) -> [[u64; 3]; MOST_CLASSES]
+    ensures { λ r. ⌜ TableTold (wide .word) (now (h .entry)) r ⌝ }
+{
+    serving::counting::class_table(WORD, h)
 }

@@ -105,9 +105,12 @@ module _ {w : ℕ} (wd : Width w) where
   next-even x = widths (λ w. nextIn (shape w) x % w ≡ 0) (omega arith) (omega arith) w wd
 
   -- y is the difference of a header x and class c's: what follows of its parts, and of the bit that is made of them
-  pub next-fits : (y : ℕ) → y < 2 ^ 64 → (y % (16 * w) * 2 ^ 57 < 2 ^ 64) × (y / (16 * w) + y % (16 * w) * 2 ^ 57 < 2 ^ 64)
+  pub next-fits : (y : ℕ) → y < 2 ^ 64 → (y % (16 * w) * (2 ^ 60 / w) < 2 ^ 64) × (y / (16 * w) + y % (16 * w) * (2 ^ 60 / w) < 2 ^ 64)
   next-fits y =
-      widths (λ w. y < 2 ^ 64 → (y % (16 * w) * 2 ^ 57 < 2 ^ 64) × (y / (16 * w) + y % (16 * w) * 2 ^ 57 < 2 ^ 64)) (λ h. high-fits (y / 64) (y % 64) (2 ^ 57) 64 (omega arith) (omega arith)) (λ h. high-fits (y / 128) (y % 128) (2 ^ 57) 128 (omega arith) (omega arith)) w wd
+      widths (λ w. y < 2 ^ 64 → (y % (16 * w) * (2 ^ 60 / w) < 2 ^ 64) × (y / (16 * w) + y % (16 * w) * (2 ^ 60 / w) < 2 ^ 64)) (λ h. high-fits (y / 64) (y % 64) (2 ^ 58) 64 (omega arith) (omega arith)) (λ h. high-fits (y / 128) (y % 128) (2 ^ 57) 128 (omega arith) (omega arith)) w wd
+
+  high-beyond : 2 ^ 32 ≤ 2 ^ 60 / w
+  high-beyond = widths (λ w. 2 ^ 32 ≤ 2 ^ 60 / w) (omega arith) (omega arith) w wd
 
   module _ (x y c : ℕ) (few : c < shape w .classes) (fits : y < 2 ^ 64) (e : (y + freeMark c) % 2 ^ 64 ≡ x) where
     pub near-parts : classAndFlags (shape w) x ≡ freeMark c → (y % (16 * w) ≡ 0) × (y / (16 * w) ≡ offsetBit w (nextIn (shape w) x))
@@ -116,11 +119,11 @@ module _ {w : ℕ} (wd : Width w) where
     pub far-part : (classAndFlags (shape w) x ≡ freeMark c → ⊥) → 1 ≤ y % (16 * w)
     far-part = widths (λ w. c < shape w .classes → (classAndFlags (shape w) x ≡ freeMark c → ⊥) → 1 ≤ y % (16 * w)) (omega (arith, fits, e)) (omega (arith, fits, e)) w wd few
 
-    pub next-near : classAndFlags (shape w) x ≡ freeMark c → y / (16 * w) + y % (16 * w) * 2 ^ 57 ≡ offsetBit w (nextIn (shape w) x)
-    next-near f = let z = near-parts f in high-none (y / (16 * w)) (y % (16 * w)) (2 ^ 57) (z .0) ∙ z .1
+    pub next-near : classAndFlags (shape w) x ≡ freeMark c → y / (16 * w) + y % (16 * w) * (2 ^ 60 / w) ≡ offsetBit w (nextIn (shape w) x)
+    next-near f = let z = near-parts f in high-none (y / (16 * w)) (y % (16 * w)) (2 ^ 60 / w) (z .0) ∙ z .1
 
-    pub next-far : (classAndFlags (shape w) x ≡ freeMark c → ⊥) → 2 ^ 32 ≤ y / (16 * w) + y % (16 * w) * 2 ^ 57
-    next-far f = omega (arith, high-far (y / (16 * w)) (y % (16 * w)) (2 ^ 57) (far-part f))
+    pub next-far : (classAndFlags (shape w) x ≡ freeMark c → ⊥) → 2 ^ 32 ≤ y / (16 * w) + y % (16 * w) * (2 ^ 60 / w)
+    next-far f = omega (arith, high-far (y / (16 * w)) (y % (16 * w)) (2 ^ 60 / w) (far-part f), high-beyond)
 
   pub no-flags : classAndFlags (shape w) 0 ≡ 0
   no-flags = widths (λ w. classAndFlags (shape w) 0 ≡ 0) (omega arith) (omega arith) w wd

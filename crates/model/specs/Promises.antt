@@ -42,6 +42,11 @@ readingNumbers = 0 ∷ badLength ∷ notOpened ∷ notSound ∷ []
 abbrev pub lookUpNumbers : List ℕ
 lookUpNumbers = 0 ∷ badLength ∷ notOpened ∷ notSound ∷ notLive ∷ []
 
+-- what a call of a run answered
+pub record Reply : Type 0 where
+  pub refusal : ℕ
+  pub address : ℕ
+
 module _ (S : Shape) where
   -- what may come of a call on bytes b
   unfoldable pub Comes : List ℕ → Call → Outcome → Type 0
@@ -258,11 +263,6 @@ module _ (S : Shape) where
   Plain (resizing a n) = ⊥
   Plain (resizingBy v a n) = ⊥
   Plain sweeping = Unit {0}
-
-  -- what a call of a run answered
-  pub record Reply : Type 0 where
-    pub refusal : ℕ
-    pub address : ℕ
 
   -- a run of allocations, frees and sweeps from bytes b, with writes before each: what was answered
   pub data Run : List ℕ → List Call → List Reply → Type 0 where

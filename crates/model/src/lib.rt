@@ -6,6 +6,7 @@ ghost use Prim.Native.Nat.{_+_, _*_, _≤_, _<_, _^_};
 ghost use Rattle.words.specs.Width.{Width};
 ghost use Rattle.model.specs.Shape.{shape, endOf, classOf, needOf, index, start, tags, leastFree, shortest, leastVariable, largestItem, itemSize, itemCapacity, itemShown, blockCapacity, pageNeed, addressOf, positionOf, offsetOf, itemAt};
 ghost use Rattle.model.specs.inner.Headers.{leastHeader, SameClass};
+ghost use Rattle.model.specs.inner.Pages.{leastPage};
 ghost use Rattle.model.specs.Parts.{tagOf, sizeIn, kindIn, freeHeader, heldHeader, flagsIn, usedIn, askedIn, freeMark, classAndFlags, classIn, nextIn, dataAt, indexAt, firstFreeAt, endAt, indexTag, indexTagAt, indexFarTagAt, headAt, farTagAt, nextAt, previousAt, firstItemAt};
 
 // A place counted in bytes from the start of the buffer.
@@ -104,14 +105,20 @@ pub fn longest(w: usize) -> usize
     if w == 8 { MOST_BYTES } else { 65536 }
 }
 
-// The pages of the longest heap at most, with words of 8 bytes and of 4, and those of a heap of so many bytes: an array's length is a constant.
-pub const MOST_PAGES: usize = 256;
-
-pub const MOST_HAND_PAGES: usize = 2048;
-
+// How many pages a table has entries for: an array's length is a constant. Every heap has fewer than the last has; at 8 bytes a word the second is enough too.
 pub const FEW_PAGES: usize = 16;
 
-pub const FEW_PAGES_BYTES: usize = 65536;
+pub const MORE_PAGES: usize = 256;
+
+pub const MOST_PAGES: usize = 2048;
+
+// The bytes that n pages take at least.
+pub fn paged_bytes(w: usize, n: usize) -> usize
+    requires { ⌜ n < 2 ^ 32 ⌝ }
+    ensures { λ r. ⌜ r ≡ n * leastPage w ⌝ }
+{
+    if w == 8 { n * 4096 } else { n * 32 }
+}
 
 // The end of a heap of n bytes.
 pub fn end_of(n: usize) -> Position

@@ -23,7 +23,9 @@ pub mod Doing
 pub mod LookedUp
 pub mod Promised
 pub mod OneResult
+pub mod OnePlay
 pub mod AnswersPromised
 pub mod SweepPromised
+pub mod CallsPromised
 pub mod FiguresOfCalls
 pub mod Needed

@@ -23,21 +23,21 @@ use Rattle.promises.proofs.Answers.{answers}
 
 module _ {w : ℕ} (wd : Width w) where
   -- the first call of a run, and the rest
-  record First (b : List ℕ) (q : Call) (qs : List Call) (rs : List (Reply (shape w))) : Type 0 where
+  record First (b : List ℕ) (q : Call) (qs : List Call) (rs : List Reply) : Type 0 where
     heap : List ℕ
     outcome : Outcome
-    later : List (Reply (shape w))
+    later : List Reply
     written : Written (shape w) b heap
     plain : Plain (shape w) q
     comes : Comes (shape w) heap q outcome
     rest : Run (shape w) (outcome .heap) qs later
     is : rs ≡ record { refusal = outcome .refusal; address = outcome .address } ∷ later
 
-  unfoldable Parted : List ℕ → List Call → List (Reply (shape w)) → Type 0
+  unfoldable Parted : List ℕ → List Call → List Reply → Type 0
   Parted b [] rs = rs ≡ []
   Parted b (q ∷ qs) rs = First b q qs rs
 
-  parted : {b : List ℕ} {qs : List Call} {rs : List (Reply (shape w))} → Run (shape w) b qs rs → Parted b qs rs
+  parted : {b : List ℕ} {qs : List Call} {rs : List Reply} → Run (shape w) b qs rs → Parted b qs rs
   unfolding Parted
   parted over = refl
   parted (call d {q} {qs} {r} {rs} d-written p c run) = record { heap = d; outcome = r; later = rs; written = d-written; plain = p; comes = c; rest = run; is = refl }
@@ -47,17 +47,17 @@ module _ {w : ℕ} (wd : Width w) where
   lent-same b d e l = (omega (arith, e, l .0), omega (arith, e, l .1))
 
   -- no call of a run said "no room"
-  abbrev AlwaysRoom : List (Reply (shape w)) → Type 0
+  abbrev AlwaysRoom : List Reply → Type 0
   AlwaysRoom rs = (a : ℕ) → record { refusal = noRoom; address = a } ∈ rs → ⊥
 
-  runs-agree : (qs : List Call) (b d : List ℕ) (L M : Layout) (rs ts : List (Reply (shape w))) → Lent (shape w) b → Lent (shape w) d → Here (shape w) b L → Here (shape w) d M → TwinLayouts (shape w) L M
+  runs-agree : (qs : List Call) (b d : List ℕ) (L M : Layout) (rs ts : List Reply) → Lent (shape w) b → Lent (shape w) d → Here (shape w) b L → Here (shape w) d M → TwinLayouts (shape w) L M
       → Run (shape w) b qs rs → Run (shape w) d qs ts → AlwaysRoom rs → rs ≡ ts
   unfolding Parted
   runs-agree [] b d L M rs ts l k h j twins x y n = let e : rs ≡ [] = parted x in let f : ts ≡ [] = parted y in e ∙ sym f
   runs-agree (q ∷ qs) b d L M rs ts l k h j twins x y n = go (parted x) (parted y) (runs-agree qs)
     where
       go : First b q qs rs → First d q qs ts
-          → ((b d : List ℕ) (L M : Layout) (rs ts : List (Reply (shape w))) → Lent (shape w) b → Lent (shape w) d → Here (shape w) b L → Here (shape w) d M → TwinLayouts (shape w) L M
+          → ((b d : List ℕ) (L M : Layout) (rs ts : List Reply) → Lent (shape w) b → Lent (shape w) d → Here (shape w) b L → Here (shape w) d M → TwinLayouts (shape w) L M
           → Run (shape w) b qs rs → Run (shape w) d qs ts → AlwaysRoom rs → rs ≡ ts)
           → rs ≡ ts
       go u v later =
@@ -65,14 +65,14 @@ module _ {w : ℕ} (wd : Width w) where
           let lv = lent-same d (v .heap) (v .written .0) k in
           let a = answers wd (u .heap) L lu (written-here (shape w) b (u .heap) L h (u .written)) q (u .plain) (u .outcome) (u .comes) in
           let c = answers wd (v .heap) M lv (written-here (shape w) d (v .heap) M j (v .written)) q (v .plain) (v .outcome) (v .comes) in
-          let m : AlwaysRoom (record { refusal = u .outcome .refusal; address = u .outcome .address } ∷ u .later) = subst (λ (z : List (Reply (shape w))). AlwaysRoom z) (u .is) n in
+          let m : AlwaysRoom (record { refusal = u .outcome .refusal; address = u .outcome .address } ∷ u .later) = subst (λ (z : List Reply). AlwaysRoom z) (u .is) n in
           let s = doing-twins (shape w) q (u .plain) twins (λ e. m (u .outcome .address) (unfold _∈_ in inl (ap (λ (z : ℕ). record { refusal = z; address = u .outcome .address }) (sym (a .refusal ∙ e))))) in
           let r = later (u .outcome .heap) (v .outcome .heap) (doing (shape w) q L .layout) (doing (shape w) q M .layout) (u .later) (v .later)
           (lent-same (u .heap) (u .outcome .heap) (a .same) lu) (lent-same (v .heap) (v .outcome .heap) (c .same) lv) (a .here) (c .here) (s .layouts) (u .rest) (v .rest)
           (λ z i. m z (unfold _∈_ in inr i)) in
           u .is
           ∙ ap₂ (λ (x : ℕ) (y : ℕ). record { refusal = x; address = y } ∷ u .later) (a .refusal ∙ s .refusal ∙ sym (c .refusal)) (a .address ∙ s .address ∙ sym (c .address))
-          ∙ ap (λ (z : List (Reply (shape w))). record { refusal = v .outcome .refusal; address = v .outcome .address } ∷ z) r
+          ∙ ap (λ (z : List Reply). record { refusal = v .outcome .refusal; address = v .outcome .address } ∷ z) r
           ∙ sym (v .is)
 
   pub longer-agrees : LongerAgrees (shape w)

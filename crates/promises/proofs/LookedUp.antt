@@ -5,7 +5,8 @@ use mathlib.Core.List.{List}
 use native.Mathlib.Omega.{arith}
 use lib.ListN.{length, drop, length-drop}
 use lib.Seq.{length-take-le}
-use Rattle.model.specs.Shape.{wide, largestItem, endOf}
+use Rattle.words.specs.Width.{Width}
+use Rattle.model.specs.Shape.{shape, largestItem, endOf}
 use Rattle.model.specs.Layout.{Layout}
 use Rattle.model.specs.Sound.{Here, Sound}
 use Rattle.model.specs.Live.{_∈_, Payload, content, live}
@@ -13,40 +14,40 @@ use Rattle.model.specs.Reading.{lookedUp}
 use Rattle.model.specs.Calls.{staying, moving, keeping, granted, Lent}
 use Rattle.model.specs.Promises.{Call, initialising, checking, allocating, freeing, resizing, resizingBy, sweeping, Comes, GrantShows}
 use Rattle.model.specs.declared.Address.{Address}
-use Rattle.model.proofs.Sizes.{eight}
 use Rattle.model.proofs.lives.Payloads.{in-area}
 use Rattle.model.proofs.rules.OnLayouts.{doing}
-use Rattle.heap.specs.Lookup.{PartTold}
+use Rattle.serving.specs.Lookup.{PartTold}
 use Rattle.promises.specs.Answered.{AsksFor}
 use Rattle.promises.proofs.Doing.{does}
 use Rattle.promises.proofs.FoundLive.{shown-within, look-up-shows}
 use Rattle.promises.proofs.AskedShown.{asked-shown}
 
--- which call it was
-shows : (n : ℕ) (q : Call) → AsksFor n q → GrantShows wide q n
-shows n initialising k = absurd k
-shows n checking k = absurd k
-shows n (allocating m) k = subst (λ (j : ℕ). GrantShows wide (allocating m) j) k (asked-shown eight 0 m .0)
-shows n (freeing a) k = absurd k
-shows n (resizing a m) k = absurd k
-shows n (resizingBy staying a m) k = subst (λ (j : ℕ). GrantShows wide (resizingBy staying a m) j) k (asked-shown eight a m .1)
-shows n (resizingBy moving a m) k = subst (λ (j : ℕ). GrantShows wide (resizingBy moving a m) j) k (asked-shown eight a m .2)
-shows n (resizingBy keeping a m) k = absurd k
-shows n sweeping k = absurd k
+module _ {w : ℕ} (wd : Width w) where
+  -- which call it was
+  shows : (n : ℕ) (q : Call) → AsksFor n q → GrantShows (shape w) q n
+  shows n initialising k = absurd k
+  shows n checking k = absurd k
+  shows n (allocating m) k = subst (λ (j : ℕ). GrantShows (shape w) (allocating m) j) k (asked-shown wd 0 m .0)
+  shows n (freeing a) k = absurd k
+  shows n (resizing a m) k = absurd k
+  shows n (resizingBy staying a m) k = subst (λ (j : ℕ). GrantShows (shape w) (resizingBy staying a m) j) k (asked-shown wd a m .1)
+  shows n (resizingBy moving a m) k = subst (λ (j : ℕ). GrantShows (shape w) (resizingBy moving a m) j) k (asked-shown wd a m .2)
+  shows n (resizingBy keeping a m) k = absurd k
+  shows n sweeping k = absurd k
 
--- what is shown of a live payload is as long as it says
-shown-length : (c : List ℕ) (M : Layout) → Here wide c M → (x : Payload) → x ∈ live wide M → length (lookedUp wide c (x .address) M) ≡ x .shown
-shown-length c M h x i =
-    let area = in-area wide (endOf (length c)) M (h .valid) x i in
-    let whole : length (content c x) ≡ x .size = length-take-le (x .size) (drop (x .address) c) (omega (arith, area .1, length-drop (x .address) c)) in
-    ap length (look-up-shows eight (endOf (length c)) c M (h .valid) x i)
-    ∙ length-take-le (x .shown) (content c x) (omega (arith, whole, shown-within eight (endOf (length c)) M (h .valid) x i))
+  -- what is shown of a live payload is as long as it says
+  shown-length : (c : List ℕ) (M : Layout) → Here (shape w) c M → (x : Payload) → x ∈ live (shape w) M → length (lookedUp (shape w) c (x .address) M) ≡ x .shown
+  shown-length c M h x i =
+      let area = in-area (shape w) (endOf (length c)) M (h .valid) x i in
+      let whole : length (content c x) ≡ x .size = length-take-le (x .size) (drop (x .address) c) (omega (arith, area .1, length-drop (x .address) c)) in
+      ap length (look-up-shows wd (endOf (length c)) c M (h .valid) x i)
+      ∙ length-take-le (x .shown) (content c x) (omega (arith, whole, shown-within wd (endOf (length c)) M (h .valid) x i))
 
-pub looked-up : (n : ℕ) (q : Call) → AsksFor n q → (b : List ℕ) (a : Address) (c : List ℕ) → Lent wide b → Sound wide b → Comes wide b q (granted (a .0) c) → n ≤ largestItem wide → (r : List ℕ) → PartTold c (a .0) r → length r ≡ n
-looked-up n q k b a c l s x le r t =
-    let M = doing wide q (s .layout) .layout in
-    let d = does eight b (s .layout) l (s .here) q (granted (a .0) c) x in
-    let v = shows n q k b (granted (a .0) c) (s .layout) M (record { lent = l; here = s .here; comes = x; granted = refl; then = d .here }) le in
-    ap length (t .sound (omega (arith, d .same, l .0), omega (arith, d .same, l .1)) M (d .here))
-    ∙ subst (λ (y : ℕ). length (lookedUp wide c y M) ≡ v .0 .shown) (v .2) (shown-length c M (d .here) (v .0) (v .1))
-    ∙ v .3
+  pub looked-up : (n : ℕ) (q : Call) → AsksFor n q → (b : List ℕ) (a : Address) (c : List ℕ) → Lent (shape w) b → Sound (shape w) b → Comes (shape w) b q (granted (a .0) c) → n ≤ largestItem (shape w) → (r : List ℕ) → PartTold w c (a .0) r → length r ≡ n
+  looked-up n q k b a c l s x le r t =
+      let M = doing (shape w) q (s .layout) .layout in
+      let d = does wd b (s .layout) l (s .here) q (granted (a .0) c) x in
+      let v = shows n q k b (granted (a .0) c) (s .layout) M (record { lent = l; here = s .here; comes = x; granted = refl; then = d .here }) le in
+      ap length (t .sound (omega (arith, d .same, l .0), omega (arith, d .same, l .1)) M (d .here))
+      ∙ subst (λ (y : ℕ). length (lookedUp (shape w) c y M) ≡ v .0 .shown) (v .2) (shown-length c M (d .here) (v .0) (v .1))
+      ∙ v .3

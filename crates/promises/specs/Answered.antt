@@ -1,4 +1,4 @@
--- The demands of what the public calls themselves answer: the enum of crate `heap`, through the definition of what it means; the C numbers; the reading calls; a call list's record.
+-- The demands of what the public calls themselves answer, of document 01's heap (w = 8) and of the hand unit's (w = 4): the enum that they answer, through the definition of what it means; the C numbers; the reading calls.
 use Prim.Native.Nat.{ℕ, _≤_}
 use mathlib.Core.Path.{_≡_}
 use mathlib.Core.Logic.{_↔_}
@@ -6,7 +6,7 @@ use mathlib.Core.List.{List}
 use mathlib.Core.Option.{none}
 use denote.Ref.{RefT, now, ptr}
 use lib.ListN.{length}
-use Rattle.model.specs.Shape.{wide, largestItem}
+use Rattle.model.specs.Shape.{shape, largestItem}
 use Rattle.model.specs.Layout.{Layout}
 use Rattle.model.specs.Sound.{Here, Sound}
 use Rattle.model.specs.Rules.{find, stays}
@@ -15,43 +15,21 @@ use Rattle.model.specs.Walking.{column}
 use Rattle.model.specs.Calls.{Way, staying, moving, keeping, Lent, granted, Sweeps, Steps, Counts}
 use Rattle.model.specs.Promises.{Call, initialising, checking, allocating, freeing, resizing, resizingBy, sweeping, numbersOf, Comes, AllocateKept, FreeKept, ResizeKept, SweepKept, SweepCounted, NoRoom, NotOpen, NoRoomFor}
 use Rattle.model.specs.declared.Address.{Address}
-use Rattle.heap.specs.declared.Answer.{Answer}
-use Rattle.heap.specs.declared.Answer.the-variants.{Granted, Refused}
-use Rattle.heap.specs.declared.Refusal.{Refusal}
-use Rattle.heap.specs.declared.Refusal.the-variants as why
-use Rattle.heap.specs.declared.recovery.Swept.{Swept}
-use Rattle.heap.specs.declared.recovery.Swept.the-variants as swept
-use Rattle.heap.specs.declared.Verdict.{Verdict}
-use Rattle.heap.specs.declared.counting.Counted.{Counted}
-use Rattle.heap.specs.declared.walking.Step.{Step}
-use Rattle.heap.specs.Answers.{outcome, sweptOutcome, Examined}
-use Rattle.heap.specs.Counting.{toldCounted, TableTold}
-use Rattle.heap.specs.Walking.{toldStep}
-use Rattle.heap.specs.Lookup.{Part, PartTold, RefusalTold}
-use Rattle.jagwibodu.specs.Numbers.{Numbered}
-use Rattle.records.specs.declared.Played.{Played}
-use Rattle.records.specs.Lines.{Plays}
-
--- the contract of a call of `heap`, as it stands in the source: on bytes b it may answer r and leave c
-abbrev pub MayAnswer : List ℕ → Call → Answer → List ℕ → Type 0
-MayAnswer b q r c = Comes wide b q (outcome r c)
-
--- and of `heap::sweep`
-abbrev pub MaySweep : List ℕ → Swept → List ℕ → Type 0
-MaySweep b r c = Sweeps wide b (sweptOutcome r c)
-
--- Any two results that a public contract allows are equal
-pub record OneResult : Type 0 where
-  pub answers : (b : List ℕ) (q : Call) (r r′ : Answer) (c c′ : List ℕ) → MayAnswer b q r c → MayAnswer b q r′ c′ → (r ≡ r′) × (c ≡ c′)
-  pub sweeps : (b : List ℕ) (r r′ : Swept) (c c′ : List ℕ) → MaySweep b r c → MaySweep b r′ c′ → (r ≡ r′) × (c ≡ c′)
-  pub verdicts : (b : List ℕ) (v v′ : Verdict) → Examined b v → Examined b v′ → v ≡ v′
-  pub numbers : (b : List ℕ) (q : Call) (n n′ : ℕ) (c c′ : List ℕ) → Numbered (Comes wide b q) n c → Numbered (Comes wide b q) n′ c′ → (n ≡ n′) × (c ≡ c′)
-  pub look-ups : (h : RefT (List ℕ)) (a : ℕ) (r r′ : RefT (List ℕ)) → Part h a r → Part h a r′ → (now r ≡ now r′) × (ptr r ≡ ptr r′)
-  pub look-up-refusals : (b : List ℕ) (a k k′ : ℕ) → RefusalTold b a k → RefusalTold b a k′ → k ≡ k′
-  pub statistics : (b : List ℕ) (r r′ : Counted) → Counts wide b (toldCounted r) → Counts wide b (toldCounted r′) → r ≡ r′
-  pub tables : (b : List ℕ) (t t′ : List (List ℕ)) → TableTold b t → TableTold b t′ → t ≡ t′
-  pub steps : (b : List ℕ) (at : ℕ) (r r′ : Step) → Steps wide b at (toldStep r) → Steps wide b at (toldStep r′) → r ≡ r′
-  pub plays : (b : List ℕ) (lent kind : ℕ) (body : List ℕ) (r r′ : Played) (c c′ : List ℕ) → Plays b lent kind body r c → Plays b lent kind body r′ c′ → (r ≡ r′) × (c ≡ c′)
+use Rattle.serving.specs.declared.Answer.{Answer}
+use Rattle.serving.specs.declared.Answer.the-variants.{Granted, Refused}
+use Rattle.examining.specs.declared.Refusal.{Refusal}
+use Rattle.examining.specs.declared.Refusal.the-variants as why
+use Rattle.serving.specs.declared.recovery.Swept.{Swept}
+use Rattle.serving.specs.declared.recovery.Swept.the-variants as swept
+use Rattle.examining.specs.declared.Verdict.{Verdict}
+use Rattle.serving.specs.declared.counting.Counted.{Counted}
+use Rattle.serving.specs.declared.walking.Step.{Step}
+use Rattle.examining.specs.Examined.{Examined}
+use Rattle.serving.specs.Answers.{outcome, sweptOutcome}
+use Rattle.serving.specs.Counting.{toldCounted, TableTold}
+use Rattle.serving.specs.Walking.{toldStep}
+use Rattle.serving.specs.Lookup.{Part, PartTold, RefusalTold}
+use Rattle.numbering.specs.Numbers.{Numbered}
 
 -- the calls that grant a record for n bytes: allocate, a resize in place, a move
 abbrev pub AsksFor : ℕ → Call → Type 0
@@ -65,53 +43,80 @@ AsksFor n (resizingBy moving a k) = k ≡ n
 AsksFor n (resizingBy keeping a k) = ⊥
 AsksFor n sweeping = ⊥
 
--- Demands 1 and 2 of what the calls answer
-pub record AnswersPromised : Type 0 where
-  -- a refusal leaves every byte as it was, and a call gives none but its numbers
-  pub refused-untouched : (b : List ℕ) (q : Call) (k : Refusal) (c : List ℕ) → MayAnswer b q (Refused k) c → c ≡ b
-  pub answers-only : (b : List ℕ) (q : Call) (r : Answer) (c : List ℕ) → MayAnswer b q r c → outcome r c .refusal ∈ numbersOf q
-  -- the check accepts exactly the sound heaps; no call makes a sound heap unsound; an opened heap is sound
-  pub accepts-exactly : (b : List ℕ) (r : Answer) (c : List ℕ) → MayAnswer b checking r c → ((a : Address) × (r ≡ Granted a)) ↔ (Lent wide b × Sound wide b)
-  pub stays-sound : (b : List ℕ) (q : Call) (r : Answer) (c : List ℕ) → MayAnswer b q r c → Sound wide b → Sound wide c
-  pub opens-sound : (b : List ℕ) (a : Address) (c : List ℕ) → MayAnswer b initialising (Granted a) c → Sound wide c
-  -- what a granted call keeps
-  pub allocate-keeps : (b : List ℕ) (n : ℕ) (a : Address) (c : List ℕ) (L L′ : Layout) → Lent wide b → Here wide b L → MayAnswer b (allocating n) (Granted a) c → Here wide c L′
-      → AllocateKept wide b n L (granted (a .0) c) L′
-  pub free-keeps : (b : List ℕ) (a : ℕ) (x : Address) (c : List ℕ) (L L′ : Layout) → Lent wide b → Here wide b L → MayAnswer b (freeing a) (Granted x) c → Here wide c L′
-      → FreeKept wide b a L (granted (x .0) c) L′
-  pub resize-keeps : (b : List ℕ) (a n : ℕ) (x : Address) (c : List ℕ) (L L′ : Layout) → Lent wide b → Here wide b L → MayAnswer b (resizing a n) (Granted x) c → Here wide c L′
-      → ResizeKept wide b a n L (granted (x .0) c) L′
-  pub each-way-keeps : (v : Way) (b : List ℕ) (a n : ℕ) (x : Address) (c : List ℕ) (L L′ : Layout) → Lent wide b → Here wide b L → MayAnswer b (resizingBy v a n) (Granted x) c → Here wide c L′
-      → ResizeKept wide b a n L (granted (x .0) c) L′
-  -- an item that was granted for n bytes is looked up as n bytes
-  pub looked-up : (n : ℕ) (q : Call) → AsksFor n q → (b : List ℕ) (a : Address) (c : List ℕ) → Lent wide b → Sound wide b → MayAnswer b q (Granted a) c → n ≤ largestItem wide
-      → (r : List ℕ) → PartTold c (a .0) r → length r ≡ n
-  -- in place gives the record's own address, a move never does
-  pub in-place-stays : (b : List ℕ) (a n : ℕ) (x : Address) (c : List ℕ) → MayAnswer b (resizingBy staying a n) (Granted x) c → x .0 ≡ a
-  pub move-moves : (b : List ℕ) (a n : ℕ) (x : Address) (c : List ℕ) → MayAnswer b (resizingBy moving a n) (Granted x) c → x .0 ≡ a → ⊥
-  -- 6 exactly where the rule finds nothing, from one way of resize where that way is not open; and 5 exactly where nothing is live
-  pub no-room-exactly : (b : List ℕ) (n : ℕ) (r : Answer) (c : List ℕ) (L : Layout) → Lent wide b → Here wide b L → 1 ≤ n → n ≤ wide .most
-      → (MayAnswer b (allocating n) r c → (r ≡ Refused why.NoRoom) ↔ NoRoom wide n L)
-      × ((x : Payload) → x ∈ live wide L → MayAnswer b (resizing (x .address) n) r c → (r ≡ Refused why.NoRoom) ↔ NoRoomFor wide x n L)
-      × ((v : Way) (x : Payload) → x ∈ live wide L → MayAnswer b (resizingBy v (x .address) n) r c → (r ≡ Refused why.NoRoom) ↔ NotOpen wide v x n L)
-  pub not-live-exactly : (b : List ℕ) (a : ℕ) (r : Answer) (c : List ℕ) (L : Layout) → Lent wide b → Here wide b L
-      → MayAnswer b (freeing a) r c → (r ≡ Refused why.NotLive) ↔ ((x : Payload) → x ∈ live wide L → x .address ≡ a → ⊥)
-  -- a size that the record x holds already is never refused: where x can neither stay nor move, its address is answered and no byte changes
-  pub smaller-kept : (b : List ℕ) (n : ℕ) (r : Answer) (c : List ℕ) (L : Layout) → Lent wide b → Here wide b L → (x : Payload) → x ∈ live wide L → 1 ≤ n → n ≤ x .size
-      → MayAnswer b (resizing (x .address) n) r c
-      → ((a : Address) × (r ≡ Granted a)) × (stays wide n (find wide (x .address) L) L ≡ none → NoRoom wide n L → (r ≡ Granted (record { 0 = x .address })) × (c ≡ b))
-  -- the table's columns add up to the statistics of the same heap
-  pub columns-add : (b : List ℕ) (r : Counted) (t : List (List ℕ)) → Counts wide b (toldCounted r) → TableTold b t
-      → (column 0 t ≡ r .statistics .pages) × (column 1 t ≡ r .statistics .items)
+module _ (w : ℕ) where
+  -- the contract of a call, as it stands in the source: on bytes b it may answer r and leave c
+  abbrev pub MayAnswer : List ℕ → Call → Answer → List ℕ → Type 0
+  MayAnswer b q r c = Comes (shape w) b q (outcome r c)
 
--- Demands 1 and 2 of what a sweep answers
-pub record SweepPromised : Type 0 where
-  -- a refusal leaves every byte as it was, and there are no others than 1, 2 and 3; a sound heap stays sound
-  pub refused-untouched : (b : List ℕ) (k : Refusal) (c : List ℕ) → MaySweep b (swept.Refused k) c → c ≡ b
-  pub answers-only : (b : List ℕ) (r : Swept) (c : List ℕ) → MaySweep b r c → sweptOutcome r c .refusal ∈ numbersOf sweeping
-  pub stays-sound : (b : List ℕ) (r : Swept) (c : List ℕ) → MaySweep b r c → Sound wide b → Sound wide c
-  -- what it keeps, and what it counts
-  pub keeps : (b : List ℕ) (n : ℕ) (c : List ℕ) (L L′ : Layout) → Lent wide b → Here wide b L → MaySweep b (swept.Pages n) c → Here wide c L′
-      → SweepKept wide b L (granted n c) L′ × SweepCounted wide L (granted n c) L′
-  -- a second one straight after answers 0 and changes no byte
-  pub stays : (b : List ℕ) (n : ℕ) (c : List ℕ) (r : Swept) (d : List ℕ) → MaySweep b (swept.Pages n) c → MaySweep c r d → (r ≡ swept.Pages 0) × (d ≡ c)
+  -- and of a sweep
+  abbrev pub MaySweep : List ℕ → Swept → List ℕ → Type 0
+  MaySweep b r c = Sweeps (shape w) b (sweptOutcome r c)
+
+  -- Any two results that a public contract allows are equal
+  pub record OneResult : Type 0 where
+    pub answers : (b : List ℕ) (q : Call) (r r′ : Answer) (c c′ : List ℕ) → MayAnswer b q r c → MayAnswer b q r′ c′ → (r ≡ r′) × (c ≡ c′)
+    pub sweeps : (b : List ℕ) (r r′ : Swept) (c c′ : List ℕ) → MaySweep b r c → MaySweep b r′ c′ → (r ≡ r′) × (c ≡ c′)
+    pub verdicts : (b : List ℕ) (v v′ : Verdict) → Examined w b v → Examined w b v′ → v ≡ v′
+    pub numbers : (b : List ℕ) (q : Call) (n n′ : ℕ) (c c′ : List ℕ) → Numbered (Comes (shape w) b q) n c → Numbered (Comes (shape w) b q) n′ c′ → (n ≡ n′) × (c ≡ c′)
+    pub look-ups : (h : RefT (List ℕ)) (a : ℕ) (r r′ : RefT (List ℕ)) → Part w h a r → Part w h a r′ → (now r ≡ now r′) × (ptr r ≡ ptr r′)
+    pub look-up-refusals : (b : List ℕ) (a k k′ : ℕ) → RefusalTold w b a k → RefusalTold w b a k′ → k ≡ k′
+    pub statistics : (b : List ℕ) (r r′ : Counted) → Counts (shape w) b (toldCounted r) → Counts (shape w) b (toldCounted r′) → r ≡ r′
+    pub tables : (b : List ℕ) (t t′ : List (List ℕ)) → TableTold w b t → TableTold w b t′ → t ≡ t′
+    pub steps : (b : List ℕ) (at : ℕ) (r r′ : Step) → Steps (shape w) b at (toldStep r) → Steps (shape w) b at (toldStep r′) → r ≡ r′
+
+  -- Demands 1 and 2 of what the calls answer
+  pub record AnswersPromised : Type 0 where
+    -- a refusal leaves every byte as it was, and a call gives none but its numbers
+    pub refused-untouched : (b : List ℕ) (q : Call) (k : Refusal) (c : List ℕ) → MayAnswer b q (Refused k) c → c ≡ b
+    pub answers-only : (b : List ℕ) (q : Call) (r : Answer) (c : List ℕ) → MayAnswer b q r c → outcome r c .refusal ∈ numbersOf q
+    -- the check accepts exactly the sound heaps; no call makes a sound heap unsound; an opened heap is sound
+    pub accepts-exactly : (b : List ℕ) (r : Answer) (c : List ℕ) → MayAnswer b checking r c → ((a : Address) × (r ≡ Granted a)) ↔ (Lent (shape w) b × Sound (shape w) b)
+    pub stays-sound : (b : List ℕ) (q : Call) (r : Answer) (c : List ℕ) → MayAnswer b q r c → Sound (shape w) b → Sound (shape w) c
+    pub opens-sound : (b : List ℕ) (a : Address) (c : List ℕ) → MayAnswer b initialising (Granted a) c → Sound (shape w) c
+    -- what a granted call keeps
+    pub allocate-keeps : (b : List ℕ) (n : ℕ) (a : Address) (c : List ℕ) (L L′ : Layout) → Lent (shape w) b → Here (shape w) b L → MayAnswer b (allocating n) (Granted a) c → Here (shape w) c L′
+        → AllocateKept (shape w) b n L (granted (a .0) c) L′
+    pub free-keeps : (b : List ℕ) (a : ℕ) (x : Address) (c : List ℕ) (L L′ : Layout) → Lent (shape w) b → Here (shape w) b L → MayAnswer b (freeing a) (Granted x) c → Here (shape w) c L′
+        → FreeKept (shape w) b a L (granted (x .0) c) L′
+    pub resize-keeps : (b : List ℕ) (a n : ℕ) (x : Address) (c : List ℕ) (L L′ : Layout) → Lent (shape w) b → Here (shape w) b L → MayAnswer b (resizing a n) (Granted x) c → Here (shape w) c L′
+        → ResizeKept (shape w) b a n L (granted (x .0) c) L′
+    pub each-way-keeps : (v : Way) (b : List ℕ) (a n : ℕ) (x : Address) (c : List ℕ) (L L′ : Layout) → Lent (shape w) b → Here (shape w) b L → MayAnswer b (resizingBy v a n) (Granted x) c → Here (shape w) c L′
+        → ResizeKept (shape w) b a n L (granted (x .0) c) L′
+    -- an item that was granted for n bytes is looked up as n bytes
+    pub looked-up : (n : ℕ) (q : Call) → AsksFor n q → (b : List ℕ) (a : Address) (c : List ℕ) → Lent (shape w) b → Sound (shape w) b → MayAnswer b q (Granted a) c → n ≤ largestItem (shape w)
+        → (r : List ℕ) → PartTold w c (a .0) r → length r ≡ n
+    -- in place gives the record's own address, a move never does
+    pub in-place-stays : (b : List ℕ) (a n : ℕ) (x : Address) (c : List ℕ) → MayAnswer b (resizingBy staying a n) (Granted x) c → x .0 ≡ a
+    pub move-moves : (b : List ℕ) (a n : ℕ) (x : Address) (c : List ℕ) → MayAnswer b (resizingBy moving a n) (Granted x) c → x .0 ≡ a → ⊥
+    -- 6 exactly where the rule finds nothing, from one way of resize where that way is not open; and 5 exactly where nothing is live
+    pub no-room-exactly : (b : List ℕ) (n : ℕ) (r : Answer) (c : List ℕ) (L : Layout) → Lent (shape w) b → Here (shape w) b L → 1 ≤ n → n ≤ shape w .most
+        → (MayAnswer b (allocating n) r c → (r ≡ Refused why.NoRoom) ↔ NoRoom (shape w) n L)
+        × ((x : Payload) → x ∈ live (shape w) L → MayAnswer b (resizing (x .address) n) r c → (r ≡ Refused why.NoRoom) ↔ NoRoomFor (shape w) x n L)
+        × ((v : Way) (x : Payload) → x ∈ live (shape w) L → MayAnswer b (resizingBy v (x .address) n) r c → (r ≡ Refused why.NoRoom) ↔ NotOpen (shape w) v x n L)
+    pub not-live-exactly : (b : List ℕ) (a : ℕ) (r : Answer) (c : List ℕ) (L : Layout) → Lent (shape w) b → Here (shape w) b L
+        → MayAnswer b (freeing a) r c → (r ≡ Refused why.NotLive) ↔ ((x : Payload) → x ∈ live (shape w) L → x .address ≡ a → ⊥)
+    -- a size that the record x holds already is never refused: where x can neither stay nor move, its address is answered and no byte changes
+    pub smaller-kept : (b : List ℕ) (n : ℕ) (r : Answer) (c : List ℕ) (L : Layout) → Lent (shape w) b → Here (shape w) b L → (x : Payload) → x ∈ live (shape w) L → 1 ≤ n → n ≤ x .size
+        → MayAnswer b (resizing (x .address) n) r c
+        → ((a : Address) × (r ≡ Granted a)) × (stays (shape w) n (find (shape w) (x .address) L) L ≡ none → NoRoom (shape w) n L → (r ≡ Granted (record { 0 = x .address })) × (c ≡ b))
+    -- the table's columns add up to the statistics of the same heap
+    pub columns-add : (b : List ℕ) (r : Counted) (t : List (List ℕ)) → Counts (shape w) b (toldCounted r) → TableTold w b t
+        → (column 0 t ≡ r .statistics .pages) × (column 1 t ≡ r .statistics .items)
+
+  -- Demands 1 and 2 of what a sweep answers
+  pub record SweepPromised : Type 0 where
+    -- a refusal leaves every byte as it was, and there are no others than 1, 2 and 3; a sound heap stays sound
+    pub refused-untouched : (b : List ℕ) (k : Refusal) (c : List ℕ) → MaySweep b (swept.Refused k) c → c ≡ b
+    pub answers-only : (b : List ℕ) (r : Swept) (c : List ℕ) → MaySweep b r c → sweptOutcome r c .refusal ∈ numbersOf sweeping
+    pub stays-sound : (b : List ℕ) (r : Swept) (c : List ℕ) → MaySweep b r c → Sound (shape w) b → Sound (shape w) c
+    -- what it keeps, and what it counts
+    pub keeps : (b : List ℕ) (n : ℕ) (c : List ℕ) (L L′ : Layout) → Lent (shape w) b → Here (shape w) b L → MaySweep b (swept.Pages n) c → Here (shape w) c L′
+        → SweepKept (shape w) b L (granted n c) L′ × SweepCounted (shape w) L (granted n c) L′
+    -- a second one straight after answers 0 and changes no byte
+    pub stays : (b : List ℕ) (n : ℕ) (c : List ℕ) (r : Swept) (d : List ℕ) → MaySweep b (swept.Pages n) c → MaySweep c r d → (r ≡ swept.Pages 0) × (d ≡ c)
+
+  -- THE PROMISES of what the calls answer
+  pub record CallsPromised : Type 0 where
+    pub one-result : OneResult
+    pub answers : AnswersPromised
+    pub sweeps : SweepPromised

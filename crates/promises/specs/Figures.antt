@@ -1,4 +1,4 @@
--- Document 01's starred figures and those of 02's requests as a table about the calls, and how much room an allocation needs. At 8 bytes a word only, as the figures are.
+-- Document 01's starred figures and those of 02's requests as a table about the calls; the hand unit's, as another; and how much room an allocation needs.
 use Prim.Native.Nat.{ℕ, _≤_, _<_}
 use mathlib.Core.Path.{_≡_}
 use mathlib.Core.Bool.{Bool, true, false}
@@ -6,13 +6,13 @@ use mathlib.Core.List.{List, [], _∷_}
 use lib.ListN.{length}
 use Rattle.words.specs.Word.{Bytes}
 use Rattle.model.specs.Picture.{Word, Shows}
-use Rattle.model.specs.Shape.{wide}
+use Rattle.model.specs.Shape.{shape}
 use Rattle.model.specs.Refusals.{noRoom}
 use Rattle.model.specs.Calls.{staying, moving, Outcome, Opened, Initialises, Allocates}
 use Rattle.model.specs.Promises.{Call, initialising, allocating, freeing, resizing, resizingBy, sweeping, Comes, Reply}
 
 -- an answer: a refusal and an address; a word: a position and its value
-abbrev pub says : ℕ → ℕ → Reply wide
+abbrev pub says : ℕ → ℕ → Reply
 says k a = record { refusal = k; address = a }
 
 abbrev pub word : ℕ → ℕ → Word
@@ -22,17 +22,17 @@ word p v = record { at = p; is = v }
 pub record Figure : Type 0 where
   pub bytes : ℕ
   pub calls : List Call
-  pub answers : List (Reply wide)
+  pub answers : List Reply
   pub words : List Word
   pub still : Bool
 
-abbrev pub figure : ℕ → List Call → List (Reply wide) → List Word → Figure
+abbrev pub figure : ℕ → List Call → List Reply → List Word → Figure
 figure n qs rs ws = record { bytes = n; calls = qs; answers = rs; words = ws; still = false }
 
-abbrev pub unchanged : ℕ → List Call → List (Reply wide) → List Word → Figure
+abbrev pub unchanged : ℕ → List Call → List Reply → List Word → Figure
 unchanged n qs rs ws = record { bytes = n; calls = qs; answers = rs; words = ws; still = true }
 
--- document 01's list, and then the requests' figures
+-- of document 01's heap: its list, and then the requests' figures
 unfoldable pub table : List Figure
 table =
     -- N 343: 1. N 344: a free block of 32 at 312; allocate 1: 6
@@ -92,13 +92,43 @@ table =
     (word 56 272 ∷ word 320 4741 ∷ word 344 5509 ∷ [])
     ∷ []
 
--- outcomes that the calls' contracts allow, one after the other, from bytes b on; the bytes then, and before the last; and what was answered
-unfoldable pub Outcomes : List ℕ → List Call → List Outcome → Type 0
-Outcomes b [] [] = Unit {0}
-Outcomes b [] (r ∷ rs) = ⊥
-Outcomes b (q ∷ qs) [] = ⊥
-Outcomes b (q ∷ qs) (r ∷ rs) = Comes wide b q r × Outcomes (r .heap) qs rs
+-- of the hand unit's heap (viii)
+unfoldable pub handTable : List Figure
+handTable =
+    -- N 111: 1. N 112: words 96, 28, 96, 112, 75, 75, and a free block of 16; allocate 1: 6
+    figure 111 [] (says 1 0 ∷ []) []
+    ∷ figure 112 [] (says 0 0 ∷ []) (word 8 96 ∷ word 12 28 ∷ word 16 96 ∷ word 20 112 ∷ word 24 75 ∷ word 92 75 ∷ word 96 16 ∷ [])
+    ∷ unchanged 112 (allocating 1 ∷ []) (says 0 0 ∷ says 6 0 ∷ []) []
+    -- N 119: end 112
+    ∷ figure 119 [] (says 0 0 ∷ []) (word 20 112 ∷ [])
+    -- N 128, allocate 1: address 104, tag 35, header 131, head 84, second header 1; then 8: address 116; then 8: 6
+    ∷ figure 128 (allocating 1 ∷ []) (says 0 0 ∷ says 0 104 ∷ []) (word 96 35 ∷ word 124 35 ∷ word 100 131 ∷ word 28 84 ∷ word 112 1 ∷ word 16 0 ∷ [])
+    ∷ figure 128 (allocating 1 ∷ allocating 8 ∷ []) (says 0 0 ∷ says 0 104 ∷ says 0 116 ∷ []) (word 112 1027 ∷ word 28 0 ∷ [])
+    ∷ unchanged 128 (allocating 1 ∷ allocating 8 ∷ allocating 8 ∷ []) (says 0 0 ∷ says 0 104 ∷ says 0 116 ∷ says 6 0 ∷ []) []
+    -- instead free 116 and 104: header 1,345, head 72; the offset 84 that it names is a multiple of 4, not of 8; free 104 again: 5
+    ∷ figure 128 (allocating 1 ∷ allocating 8 ∷ freeing 116 ∷ freeing 104 ∷ []) (says 0 0 ∷ says 0 104 ∷ says 0 116 ∷ says 0 0 ∷ says 0 0 ∷ []) (word 100 1345 ∷ word 28 72 ∷ word 112 1 ∷ [])
+    ∷ unchanged 128 (allocating 1 ∷ allocating 8 ∷ freeing 116 ∷ freeing 104 ∷ freeing 104 ∷ []) (says 0 0 ∷ says 0 104 ∷ says 0 116 ∷ says 0 0 ∷ says 0 0 ∷ says 5 0 ∷ []) []
+    -- then sweep: 1, and one free block of 32 at 96
+    ∷ figure 128 (allocating 1 ∷ allocating 8 ∷ freeing 116 ∷ freeing 104 ∷ sweeping ∷ []) (says 0 0 ∷ says 0 104 ∷ says 0 116 ∷ says 0 0 ∷ says 0 0 ∷ says 0 1 ∷ []) (word 16 96 ∷ word 96 32 ∷ word 28 0 ∷ [])
+    -- N 128, allocate 5: header 643; in place to 8: header 1,027; move to 8 instead: address 116, and the first item, free again, heads its list
+    ∷ figure 128 (allocating 5 ∷ resizingBy staying 104 8 ∷ []) (says 0 0 ∷ says 0 104 ∷ says 0 104 ∷ []) (word 100 1027 ∷ word 28 84 ∷ [])
+    ∷ figure 128 (allocating 5 ∷ resizingBy moving 104 8 ∷ []) (says 0 0 ∷ says 0 104 ∷ says 0 116 ∷ []) (word 100 1 ∷ word 112 1027 ∷ word 28 72 ∷ [])
+    -- N 1,000, allocate 129: address 100, tag 146, rest at 240, size 760; allocate 65,537: 4
+    ∷ figure 1000 (allocating 129 ∷ []) (says 0 0 ∷ says 0 100 ∷ []) (word 96 146 ∷ word 16 240 ∷ word 240 760 ∷ [])
+    ∷ unchanged 1000 (allocating 65537 ∷ []) (says 0 0 ∷ says 4 0 ∷ []) []
+    -- allocate 152 and 129, free 100, then (a) allocate 136: rest of 16 at 240; (b) instead 137: 8 would remain, so whole, tag 162; both at address 100
+    ∷ figure 1000 (allocating 152 ∷ allocating 129 ∷ freeing 100 ∷ allocating 136 ∷ []) (says 0 0 ∷ says 0 100 ∷ says 0 260 ∷ says 0 0 ∷ says 0 100 ∷ []) (word 96 146 ∷ word 16 240 ∷ word 240 16 ∷ [])
+    ∷ figure 1000 (allocating 152 ∷ allocating 129 ∷ freeing 100 ∷ allocating 137 ∷ []) (says 0 0 ∷ says 0 100 ∷ says 0 260 ∷ says 0 0 ∷ says 0 100 ∷ []) (word 96 162 ∷ word 16 400 ∷ [])
+    -- allocate 200, resize 100 to 190: nothing changes; to 184: free block at 288, size 712; to 250: rest at 360, size 640
+    ∷ unchanged 1000 (allocating 200 ∷ resizing 100 190 ∷ []) (says 0 0 ∷ says 0 100 ∷ says 0 100 ∷ []) (word 96 210 ∷ word 16 304 ∷ [])
+    ∷ figure 1000 (allocating 200 ∷ resizing 100 184 ∷ []) (says 0 0 ∷ says 0 100 ∷ says 0 100 ∷ []) (word 16 288 ∷ word 288 712 ∷ [])
+    ∷ figure 1000 (allocating 200 ∷ resizing 100 250 ∷ []) (says 0 0 ∷ says 0 100 ∷ says 0 100 ∷ []) (word 16 360 ∷ word 360 640 ∷ [])
+    -- N 300, allocate 129, resize 100 to 20: there is no room for a page, so nothing changes; to 200: 6
+    ∷ unchanged 300 (allocating 129 ∷ resizing 100 20 ∷ []) (says 0 0 ∷ says 0 100 ∷ says 0 100 ∷ []) (word 96 146 ∷ word 16 240 ∷ word 240 56 ∷ [])
+    ∷ unchanged 300 (allocating 129 ∷ resizing 100 200 ∷ []) (says 0 0 ∷ says 0 100 ∷ says 6 0 ∷ []) (word 96 146 ∷ word 16 240 ∷ word 240 56 ∷ [])
+    ∷ []
 
+-- the bytes after some outcomes, and before the last of them; and what was answered
 unfoldable pub heapThen : List ℕ → List Outcome → List ℕ
 heapThen b [] = b
 heapThen b (r ∷ rs) = heapThen (r .heap) rs
@@ -108,18 +138,27 @@ heapBefore b [] = b
 heapBefore b (r ∷ []) = b
 heapBefore b (r ∷ t ∷ rs) = heapBefore (r .heap) (t ∷ rs)
 
-unfoldable pub answered : List Outcome → List (Reply wide)
+unfoldable pub answered : List Outcome → List Reply
 answered [] = []
 answered (r ∷ rs) = says (r .refusal) (r .address) ∷ answered rs
 
--- a figure holds of the calls: for any bytes of its length that are not yet a heap, and any outcomes of its calls
-abbrev pub OnBytes : Figure → Type 0
-OnBytes f =
-    (b : List ℕ) → length b ≡ f .bytes → (Opened wide b → ⊥) → (rs : List Outcome) → Outcomes b (initialising ∷ f .calls) rs
-    → (answered rs ≡ f .answers) × Shows 8 (heapThen b rs) (f .words) × (f .still ≡ true → Bytes b → heapThen b rs ≡ heapBefore b rs)
+-- of a heap with words of w bytes
+module _ (w : ℕ) where
+  -- outcomes that the calls' contracts allow, one after the other, from bytes b on
+  unfoldable pub Outcomes : List ℕ → List Call → List Outcome → Type 0
+  Outcomes b [] [] = Unit {0}
+  Outcomes b [] (r ∷ rs) = ⊥
+  Outcomes b (q ∷ qs) [] = ⊥
+  Outcomes b (q ∷ qs) (r ∷ rs) = Comes (shape w) b q r × Outcomes (r .heap) qs rs
 
--- allocate n needs a heap of N bytes: on every fresh heap that is shorter it answers 6, and on every other it is granted
-abbrev pub Needs : ℕ → ℕ → Type 0
-Needs n N =
-    (b : List ℕ) (r o : Outcome) → Initialises wide b r → r .refusal ≡ 0 → Allocates wide (r .heap) n o
-    → (length b < N → o .refusal ≡ noRoom) × (N ≤ length b → o .refusal ≡ 0)
+  -- a figure holds of the calls: for any bytes of its length that are not yet a heap, and any outcomes of its calls
+  abbrev pub OnBytes : Figure → Type 0
+  OnBytes f =
+      (b : List ℕ) → length b ≡ f .bytes → (Opened (shape w) b → ⊥) → (rs : List Outcome) → Outcomes b (initialising ∷ f .calls) rs
+      → (answered rs ≡ f .answers) × Shows w (heapThen b rs) (f .words) × (f .still ≡ true → Bytes b → heapThen b rs ≡ heapBefore b rs)
+
+  -- allocate n needs a heap of N bytes: on every fresh heap that is shorter it answers 6, and on every other it is granted
+  abbrev pub Needs : ℕ → ℕ → Type 0
+  Needs n N =
+      (b : List ℕ) (r o : Outcome) → Initialises (shape w) b r → r .refusal ≡ 0 → Allocates (shape w) (r .heap) n o
+      → (length b < N → o .refusal ≡ noRoom) × (N ≤ length b → o .refusal ≡ 0)

@@ -10,12 +10,12 @@ use lib.Dec.{ltb}
 use Rattle.words.specs.Word.{wordAt}
 use Rattle.model.specs.Shape.{wide}
 use Rattle.model.specs.Calls.{Outcome, Initialises, Counts}
-use Rattle.heap.specs.declared.Refusal.the-variants.{BadLength}
-use Rattle.heap.specs.declared.Answer.{Answer}
-use Rattle.heap.specs.declared.Answer.the-variants.{Granted, Refused}
-use Rattle.heap.specs.Answers.{outcome}
-use Rattle.heap.specs.Counting.{toldCounted}
-use Rattle.heap.specs.declared.counting.Counted as heap-counted
+use Rattle.examining.specs.declared.Refusal.the-variants.{BadLength}
+use Rattle.serving.specs.declared.Answer.{Answer}
+use Rattle.serving.specs.declared.Answer.the-variants.{Granted, Refused}
+use Rattle.serving.specs.Answers.{outcome}
+use Rattle.serving.specs.Counting.{toldCounted}
+use Rattle.serving.specs.declared.counting.Counted as serving-counted
 use Rattle.records.specs.declared.Line.{Line}
 use Rattle.records.specs.declared.Played.{Played}
 use Rattle.records.specs.Lines.{lineOf, Called, OpensIn, AllocatesIn, ResizesIn, FreesIn, CountsIn, noLine, clip, CallPlayed, Plays}
@@ -52,7 +52,7 @@ module _ (b : List ℕ) (lent n : ℕ) where
         record { beyond = λ k. absurd (omega arith); within = λ _. called (λ d o. Initialises wide d o) b n r l ys a e; granted = λ _ k. absurd (z k); refused = λ _ _. refl }
 
 -- the statistics, told as a line
-pub counts-line : (b : List ℕ) (n : ℕ) (r : heap-counted.Counted) → Counts wide (take (n - 0) b) (toldCounted r)
+pub counts-line : (b : List ℕ) (n : ℕ) (r : serving-counted.Counted) → Counts wide (take (n - 0) b) (toldCounted r)
     → CountsIn b n (record { refusal = r .refusal; numbers = r .statistics .«free_bytes» ∷ r .statistics .«free_blocks» ∷ r .statistics .«largest_free» ∷ r .statistics .variables ∷ r .statistics .pages ∷ r .statistics .items ∷ [] })
 counts-line b n r a =
     let z : n - 0 ≡ n = omega arith in

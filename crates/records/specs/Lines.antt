@@ -9,10 +9,10 @@ use Rattle.words.specs.Word.{wordAt}
 use Rattle.model.specs.Shape.{wide}
 use Rattle.model.specs.Calls.{Outcome, Told, Allocates, Resizes, Frees, Initialises, Counts}
 use Rattle.model.specs.Reading.{Statistics}
-use Rattle.heap.specs.declared.Answer.{Answer}
-use Rattle.heap.specs.declared.Answer.the-variants.{Granted, Refused}
-use Rattle.heap.specs.declared.Refusal.the-variants.{BadLength}
-use Rattle.heap.specs.Answers.{refusalNumber}
+use Rattle.serving.specs.declared.Answer.{Answer}
+use Rattle.serving.specs.declared.Answer.the-variants.{Granted, Refused}
+use Rattle.examining.specs.declared.Refusal.the-variants.{BadLength}
+use Rattle.examining.specs.Examined.{refusalNumber}
 use Rattle.records.specs.declared.Line.{Line}
 use Rattle.records.specs.declared.Played.{Played}
 

@@ -54,7 +54,7 @@ pub fn resize(h: &mut [u8], n: usize, a: u64, size: u64) -> Line
     requires { ⌜ n ≤ length (now h) ⌝ }
     ensures { λ l. ⌜ ResizesIn (now (h .entry)) n a size l (now (h .exit)) ⌝ }
 {
-    let r = trying::resize(&mut h[0..n], Address(a as usize), size as usize);
+    let r = heap::resize(&mut h[0..n], Address(a as usize), size as usize);
     told(r)
 }
 

@@ -7,7 +7,6 @@ use native.Mathlib.Omega.{arith}
 use native.Mathlib.Nat.{div-mul-le-self, div-add-mod', mod-lt}
 use lib.ListN.{length, length-append}
 use lib.Dec.{eqb}
-use borrow.Author.Tests.{eq-eqb, ne-eqb}
 use Rattle.words.specs.Width.{Width}
 use Rattle.words.proofs.WidthLaws.{widths}
 use Rattle.model.specs.Shape.{Shape, shape, start, itemSize, pageNeed}
@@ -82,12 +81,6 @@ module _ {w : ℕ} (wd : Width w) (c : ℕ) where
 pub roomy-same : (w n n′ m m′ : ℕ) → n′ ≡ n → m′ ≡ m → Roomy w n m → Roomy w n′ m′
 roomy-same w n n′ m m′ e f r = rw (e, f) r
 
--- the tables are as long as the heaps need
-pub short-table : (w n : ℕ) → w ≡ 8 → n ≤ 65536 → Roomy w n 16
-short-table w n e l = rw (eq-eqb w 8 e) (omega arith)
-
-pub wide-table : (w n : ℕ) → w ≡ 8 → n ≤ shape w .most → Roomy w n 256
-wide-table w n e l = let z : n ≤ 1048576 = rw (eq-eqb w 8 e) at l in rw (eq-eqb w 8 e) (omega arith)
-
-pub hand-table : (w n : ℕ) → (w ≡ 8 → ⊥) → n ≤ shape w .most → Roomy w n 2048
-hand-table w n e l = let z : n ≤ 65536 = rw (ne-eqb w 8 e) at l in rw (ne-eqb w 8 e) (omega arith)
+-- the longest table is enough for every heap
+pub most-roomy : {w : ℕ} → Width w → (n : ℕ) → n ≤ shape w .most → Roomy w n 2048
+most-roomy {w} wd n = widths (λ w. n ≤ shape w .most → Roomy w n 2048) (omega arith) (omega arith) w wd

@@ -1,9 +1,8 @@
 // The lists of free items are linked anew: pages with most live items first, lower position first among equals, items rising within a page.
 // A list is built from its end: what is to come first is pushed last.
 use model::FEW_PAGES;
-use model::FEW_PAGES_BYTES;
 use model::ItemOffset;
-use model::MOST_HAND_PAGES;
+use model::MORE_PAGES;
 use model::MOST_PAGES;
 use model::PAGE;
 use model::Position;
@@ -16,7 +15,9 @@ use model::head_at;
 use model::item_size;
 use model::items_in_page;
 use model::kind_in;
+use model::longest;
 use model::offset_of;
+use model::paged_bytes;
 use model::size_in;
 use model::start;
 use model::used_in;
@@ -24,8 +25,10 @@ use reading::counting::page_at;
 use words::put_word;
 use words::word;
 ghost use mathlib.Core.Path.{_≡_};
+ghost use mathlib.Core.Bool.{true};
 ghost use Prim.Native.Nat.{_≤_, _<_, _^_};
 ghost use lib.ListN.{length};
+ghost use Rattle.model.specs.Shape.{shape};
 ghost use Rattle.model.specs.Layout.{Layout};
 ghost use Rattle.model.specs.inner.Laid.{Laid};
 ghost use Rattle.relinking.specs.Relink.{liveRoom, entryOf, pageIn, liveIn, Roomy, NextLevel, EmptyBelow, PageReady, PagePushed, AtBlock, EntryTold, Ready, Gathered, LevelReady, LevelPushed, LevelsPushed, ClassReady, ClassLinked, LinkReady, Linked};
@@ -208,6 +211,17 @@ fn link_classes(w: usize, h: &mut [u8], from: usize, table: &mut [usize])
     }
 }
 
+// Whether a table of n entries is enough for a heap of so many bytes. Where it is for the longest one, nothing is left to ask of this one.
+fn is_roomy(w: usize, bytes: usize, n: usize) -> bool
+    requires { ⌜ (bytes ≤ shape w .most) × (n < 2 ^ 32) ⌝ }
+    ensures { λ r. ⌜ (r ≡ true → Roomy w bytes n) × (Roomy w bytes n → r ≡ true) ⌝ }
+{
+    if longest(w) <= paged_bytes(w, n) {
+        return true;
+    }
+    bytes <= paged_bytes(w, n)
+}
+
 // Every class's list is linked anew. A table is made where there is a list, and as long as this heap needs: it is cleared first.
 pub fn link_anew(w: usize, h: &mut [u8])
     requires { ⌜ LinkReady w (now h) ⌝ }
@@ -217,12 +231,12 @@ pub fn link_anew(w: usize, h: &mut [u8])
     if from == classes(w) {
         return;
     }
-    if w != 8 {
-        let mut table = [0usize; MOST_HAND_PAGES];
+    if is_roomy(w, h.len(), FEW_PAGES) {
+        let mut table = [0usize; FEW_PAGES];
         return link_classes(w, h, from, &mut table);
     }
-    if h.len() <= FEW_PAGES_BYTES {
-        let mut table = [0usize; FEW_PAGES];
+    if is_roomy(w, h.len(), MORE_PAGES) {
+        let mut table = [0usize; MORE_PAGES];
         return link_classes(w, h, from, &mut table);
     }
     let mut table = [0usize; MOST_PAGES];

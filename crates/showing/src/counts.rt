@@ -1,20 +1,20 @@
 // The statistics and the table of classes.
 use crate::text::write;
 use crate::text::write_number;
-use heap::WORD;
-use model::MOST_CLASSES;
+use model::classes;
 use model::item_capacity;
 use reading::counting::count;
 use reading::counting::tabulate;
 ghost use Prim.Native.Nat.{_<_};
-ghost use Rattle.model.specs.Shape.{wide};
+ghost use Rattle.words.specs.Width.{Width};
+ghost use Rattle.model.specs.Shape.{shape};
 ghost use Rattle.model.specs.Sound.{Sound};
 
 // The six statistics, a line each.
-pub fn write_statistics(h: &[u8])
-    requires { ⌜ Sound wide (now h) ⌝ }
+pub fn write_statistics(w: usize, h: &[u8])
+    requires { ⌜ Width w × Sound (shape w) (now h) ⌝ }
 {
-    let s = count(WORD, h);
+    let s = count(w, h);
     write_number(b"\nstatistics\nfree bytes ", s.free_bytes);
     write_number(b"\nfree blocks ", s.free_blocks);
     write_number(b"\nlargest free block ", s.largest_free);
@@ -25,14 +25,14 @@ pub fn write_statistics(h: &[u8])
 }
 
 // The row of class c, where it has a page.
-fn write_class(c: usize, row: [u64; 3])
-    requires { ⌜ c < wide .classes ⌝ }
+fn write_class(w: usize, c: usize, row: [u64; 3])
+    requires { ⌜ Width w × (c < shape w .classes) ⌝ }
 {
     if row[0] == 0 {
         return;
     }
     write_number(b"", c as u64);
-    write_number(b" ", item_capacity(WORD, c) as u64);
+    write_number(b" ", item_capacity(w, c) as u64);
     write_number(b" ", row[0]);
     write_number(b" ", row[1]);
     write_number(b" ", row[2]);
@@ -40,14 +40,15 @@ fn write_class(c: usize, row: [u64; 3])
 }
 
 // The classes that have a page, a line each.
-pub fn write_classes(h: &[u8])
-    requires { ⌜ Sound wide (now h) ⌝ }
+pub fn write_classes(w: usize, h: &[u8])
+    requires { ⌜ Width w × Sound (shape w) (now h) ⌝ }
 {
     write(b"\nclasses: class, item size, pages, live items, free items\n");
-    let rows = tabulate(WORD, h);
+    let rows = tabulate(w, h);
+    let count = classes(w);
     let mut c = 0;
-    while c < MOST_CLASSES {
-        write_class(c, rows[c]);
+    while c < count {
+        write_class(w, c, rows[c]);
         c += 1;
     }
 }

@@ -13,18 +13,34 @@ use crate::map::write_map;
 use crate::payloads::write_payloads;
 use crate::text::write;
 use crate::text::write_number;
-use heap::Refusal;
-use heap::Verdict;
-use heap::WORD;
-use heap::examine;
-use heap::refusal_number;
+use examining::Refusal;
+use examining::Verdict;
+use examining::examine;
+use examining::refusal_number;
+use model::MAGIC_BYTES;
 use model::MOST_BYTES;
-use model::longest;
+use model::magic;
+use words::word;
 ghost use mathlib.Core.Path.{_≡_};
 ghost use Prim.Native.Nat.{_+_};
 ghost use lib.ListN.{length};
-ghost use Rattle.model.specs.Shape.{wide};
+ghost use Rattle.words.specs.Width.{Width};
+ghost use Rattle.model.specs.Shape.{shape, wide, hand};
 ghost use Rattle.model.specs.Sound.{Sound};
+ghost use Rattle.model.specs.Calls.{Opened};
+
+// The bytes of a word of the heap that a buffer holds: the hand unit's where the first 8 bytes say so, or else the console's.
+pub fn word_size(h: &[u8]) -> usize
+    ensures { λ r. ⌜ Width r × (Opened hand (now (h .entry)) → r ≡ hand .word) × ((Opened hand (now (h .entry)) → ⊥) → r ≡ wide .word) ⌝ }
+{
+    if h.len() < MAGIC_BYTES {
+        return heap::WORD;
+    }
+    if word(MAGIC_BYTES, h, 0) == magic(hand::WORD) {
+        return hand::WORD;
+    }
+    heap::WORD
+}
 
 // A refusal in words.
 fn write_name(k: Refusal) {
@@ -39,35 +55,44 @@ fn write_name(k: Refusal) {
     }
 }
 
+// Whose heap it is, where it is not the console's.
+fn write_unit(w: usize) {
+    if w == hand::WORD {
+        write(b"hand unit\n");
+    }
+}
+
 // Why the heap is refused. Nothing else is said of it: none of it could be trusted.
-fn write_refusal(k: Refusal, n: usize) {
+fn write_refusal(w: usize, k: Refusal, n: usize) {
     write_number(b"check: ", refusal_number(k));
     write_name(k);
-    let most = longest(WORD);
-    if most < n {
-        write_number(b"the input is too long: more than ", most as u64);
+    write_unit(w);
+    if MOST_BYTES < n {
+        write_number(b"the input is too long: more than ", MOST_BYTES as u64);
         write(b" bytes\n");
     }
 }
 
 // All that is told of a sound heap.
-fn write_sound(h: &[u8])
-    requires { ⌜ Sound wide (now h) ⌝ }
+fn write_sound(w: usize, h: &[u8])
+    requires { ⌜ Width w × Sound (shape w) (now h) ⌝ }
 {
     write(b"check: sound\n");
-    write_statistics(h);
-    write_classes(h);
-    write_blocks(h);
-    write_payloads(h);
-    write_map(h);
+    write_unit(w);
+    write_statistics(w, h);
+    write_classes(w, h);
+    write_blocks(w, h);
+    write_payloads(w, h);
+    write_map(w, h);
 }
 
-// The report on a heap.
+// The report on a heap, of either kind.
 pub fn write_report(h: &[u8]) {
-    let v = examine(h);
+    let w = word_size(h);
+    let v = examine(w, h);
     match v {
-        Verdict::Unfit(k) => write_refusal(k, h.len()),
-        Verdict::Fine => write_sound(h),
+        Verdict::Unfit(k) => write_refusal(w, k, h.len()),
+        Verdict::Fine => write_sound(w, h),
     }
 }
 

@@ -1,7 +1,6 @@
 // The live payloads, of variable blocks and of items in use, a line each.
 use crate::text::write;
 use crate::text::write_number;
-use heap::WORD;
 use model::Address;
 use model::HELD;
 use model::Position;
@@ -22,7 +21,8 @@ use reading::stepping::block_at;
 use words::word;
 ghost use Prim.Native.Nat.{_+_, _*_, _≤_, _<_};
 ghost use lib.ListN.{length};
-ghost use Rattle.model.specs.Shape.{wide, itemSize};
+ghost use Rattle.words.specs.Width.{Width};
+ghost use Rattle.model.specs.Shape.{shape, itemSize};
 ghost use Rattle.model.specs.Sound.{Sound};
 ghost use Rattle.reading.specs.Stepping.{BlockRead};
 
@@ -35,56 +35,56 @@ fn write_payload(a: Address, capacity: usize, shown: usize) {
 }
 
 // The payload of the item of class c with its header at q, where it is in use.
-fn write_item(h: &[u8], q: Position, c: usize)
-    requires { ⌜ (c < wide .classes) × (q .0 + wide .word ≤ length (now h)) ⌝ }
+fn write_item(w: usize, h: &[u8], q: Position, c: usize)
+    requires { ⌜ Width w × (c < shape w .classes) × (q .0 + w ≤ length (now h)) ⌝ }
 {
-    let x = word(WORD, h, q.0);
+    let x = word(w, h, q.0);
     if flags_in(x) == HELD {
-        let shown = item_shown(WORD, c, asked_in(x));
-        write_payload(address_of(WORD, q), item_capacity(WORD, c), shown);
+        let shown = item_shown(w, c, asked_in(x));
+        write_payload(address_of(w, q), item_capacity(w, c), shown);
     }
 }
 
 // The payloads of a page's items in use, of class c with their headers from `first` on.
-fn write_items(h: &[u8], first: Position, c: usize)
-    requires { ⌜ (c < wide .classes) × (first .0 + wide .perPage c * itemSize wide c ≤ length (now h)) ⌝ }
+fn write_items(w: usize, h: &[u8], first: Position, c: usize)
+    requires { ⌜ Width w × (c < shape w .classes) × (first .0 + shape w .perPage c * itemSize (shape w) c ≤ length (now h)) ⌝ }
 {
-    let size = item_size(WORD, c);
-    let mut left = items_in_page(WORD, c);
+    let size = item_size(w, c);
+    let mut left = items_in_page(w, c);
     let mut q = first;
     while left != 0 {
-        write_item(h, q, c);
+        write_item(w, h, q, c);
         q = Position(q.0 + size);
         left -= 1;
     }
 }
 
 // The payloads of a block.
-fn write_held(h: &[u8], b: MetBlock)
-    requires { ⌜ BlockRead (wide .word) (now h) (b .position .0) b ⌝ }
+fn write_held(w: usize, h: &[u8], b: MetBlock)
+    requires { ⌜ BlockRead w (now h) (b .position .0) b ⌝ }
 {
     let p = b.position;
     let kind = b.kind;
     match kind {
         Kind::Variable => {
-            let capacity = block_capacity(WORD, b.size);
-            write_payload(address_of(WORD, p), capacity, capacity);
+            let capacity = block_capacity(w, b.size);
+            write_payload(address_of(w, p), capacity, capacity);
         }
-        Kind::Page { class } => write_items(h, first_item_at(WORD, p), class),
+        Kind::Page { class } => write_items(w, h, first_item_at(w, p), class),
         _ => {}
     }
 }
 
 // Every live payload, in rising order.
-pub fn write_payloads(h: &[u8])
-    requires { ⌜ Sound wide (now h) ⌝ }
+pub fn write_payloads(w: usize, h: &[u8])
+    requires { ⌜ Width w × Sound (shape w) (now h) ⌝ }
 {
     write(b"\nlive payloads: address, capacity, shown\n");
     let end = end_of(h.len());
-    let mut p = start(WORD);
+    let mut p = start(w);
     while p.0 < end.0 {
-        let b = block_at(WORD, h, p);
-        write_held(h, b);
+        let b = block_at(w, h, p);
+        write_held(w, h, b);
         p = Position(p.0 + b.size);
     }
 }

@@ -67,6 +67,9 @@ fill-told {w} {b} t = record { is-told = λ y e. subst (λ (z : Bool). Tells z (
 pub fill-beyond : {w : ℕ} {b m′ : List ℕ} (s : Stand) → Halted w b (endOf (length b)) s m′ → mapEnd w (length m′) < endOf (length b) → FillTold w b (Further s) m′
 fill-beyond {w} {b} {m′} s v l = record { is-told = λ y e. absurd (told-beyond (sym e)); is-beyond = λ x e. subst (λ (z : Stand). Halted w b (endOf (length b)) z m′ × (mapEnd w (length m′) < endOf (length b))) (further-same e) (v, l) }
 
--- a large map is enough for every heap
+-- a map of m words that reaches as far as the longest heap is enough for every heap; a large one does
+pub map-enough : (w : ℕ) (b : List ℕ) (n m : ℕ) → n ≡ m → length b ≤ shape w .most → shape w .most ≤ mapEnd w m → mapEnd w n < endOf (length b) → ⊥
+map-enough w b n m e short far = rw e (λ beyond. omega arith)
+
 pub large-enough : {w : ℕ} → Width w → (b : List ℕ) (n : ℕ) → n ≡ largeMap → length b ≤ shape w .most → mapEnd w n < endOf (length b) → ⊥
-large-enough wd b n e = rw e (widths (λ w. length b ≤ shape w .most → mapEnd w largeMap < endOf (length b) → ⊥) (omega arith) (omega arith) _ wd)
+large-enough {w} wd b n e short = map-enough w b n largeMap e short (widths (λ w. shape w .most ≤ mapEnd w largeMap) (omega arith) (omega arith) w wd)

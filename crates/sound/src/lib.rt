@@ -1,4 +1,5 @@
 // The check of a heap: one walk over its blocks that marks the free items in a map of bits, and one pass over the item lists that counts the marked items.
+use marking::map::map_end;
 use model::MAGIC_BYTES;
 use model::PAGE;
 use model::Position;
@@ -12,6 +13,7 @@ use model::index_far_tag_at;
 use model::index_tag;
 use model::index_tag_at;
 use model::kind_in;
+use model::longest;
 use model::magic;
 use model::start;
 use visiting::count_lists;
@@ -82,7 +84,7 @@ fn is_filled_large(w: usize, h: &[u8], smaller: &[u64], from: Stand) -> bool
     }
 }
 
-// With a middle map, from where it has halted with a small one.
+// With a middle map, from where it has halted with a small one. For every heap of the hand unit it is enough.
 fn is_filled_middle(w: usize, h: &[u8], smaller: &[u64], from: Stand) -> bool
     requires { ⌜ Halted w (now h) (endOf (length (now h))) from (now smaller) × (length (now smaller) ≡ smallMap) × Lent (shape w) (now h) ⌝ }
     ensures { λ r. ⌜ Tells r (Filled w (now (h .entry)) (endOf (length (now (h .entry))))) ⌝ }
@@ -91,7 +93,12 @@ fn is_filled_middle(w: usize, h: &[u8], smaller: &[u64], from: Stand) -> bool
     spread(smaller, &mut m);
     match fill(w, h, &mut m, from) {
         Filling::Told(b) => b,
-        Filling::Beyond(s) => is_filled_large(w, h, &m, s),
+        Filling::Beyond(s) => {
+            if longest(w) <= map_end(w, MIDDLE).0 {
+                return false;
+            }
+            is_filled_large(w, h, &m, s)
+        }
     }
 }
 

@@ -5,14 +5,15 @@ use mathlib.Core.Bool.{true, false, false≢true}
 use mathlib.Core.List.{List}
 use native.Mathlib.Omega.{arith}
 use borrow.Author.Tests.{eqb-true, eq-eqb}
-use Rattle.model.specs.Shape.{wide}
+use Rattle.model.specs.Shape.{shape}
 use Rattle.model.specs.Refusals.{noRoom}
 use Rattle.model.specs.Calls.{Outcome, orNext, ResizesInPlace, Moves, Keeps, Resizes}
 use Rattle.model.proofs.rules.ResizeWays.{split-gives}
-use Rattle.heap.specs.declared.Answer.{Answer}
-use Rattle.heap.specs.declared.Answer.the-variants.{Granted, Refused}
-use Rattle.heap.specs.Answers.{refusalNumber, outcome}
-use Rattle.heap.proofs.Outcomes.{heap-of}
+use Rattle.serving.specs.declared.Answer.{Answer}
+use Rattle.serving.specs.declared.Answer.the-variants.{Granted, Refused}
+use Rattle.examining.specs.Examined.{refusalNumber}
+use Rattle.serving.specs.Answers.{outcome}
+use Rattle.serving.proofs.Outcomes.{heap-of}
 use Rattle.trying.specs.Trying.{isNoRoom}
 
 -- what an answer says
@@ -32,25 +33,25 @@ stops : (r : Answer) (c : List ℕ) (next : Outcome) → isNoRoom r ≡ false �
 stops (Granted a) c next e = refl
 stops (Refused k) c next e = rw e refl
 
-module _ (b : List ℕ) (a n : ℕ) (r : Answer) (c : List ℕ) (p : ResizesInPlace wide b a n (outcome r c)) where
-  pub first-gives : isNoRoom r ≡ false → Resizes wide b a n (outcome r c)
+module _ (w : ℕ) (b : List ℕ) (a n : ℕ) (r : Answer) (c : List ℕ) (p : ResizesInPlace (shape w) b a n (outcome r c)) where
+  pub first-gives : isNoRoom r ≡ false → Resizes (shape w) b a n (outcome r c)
   first-gives e =
       let o = outcome r c in
-      subst (λ (x : Outcome). Resizes wide b a n x) (stops r c (orNext o o) e)
-      (split-gives wide b a n o o o p (λ f. absurd (not-six r c e f)) (λ f. absurd (not-six r c e f)))
+      subst (λ (x : Outcome). Resizes (shape w) b a n x) (stops r c (orNext o o) e)
+      (split-gives (shape w) b a n o o o p (λ f. absurd (not-six r c e f)) (λ f. absurd (not-six r c e f)))
 
-  module _ (e : isNoRoom r ≡ true) (s : Answer) (d : List ℕ) (q : Moves wide c a n (outcome s d)) where
-    second : Moves wide (outcome r c .heap) a n (outcome s d)
-    second = subst (λ (x : List ℕ). Moves wide x a n (outcome s d)) (sym (heap-of r c)) q
+  module _ (e : isNoRoom r ≡ true) (s : Answer) (d : List ℕ) (q : Moves (shape w) c a n (outcome s d)) where
+    second : Moves (shape w) (outcome r c .heap) a n (outcome s d)
+    second = subst (λ (x : List ℕ). Moves (shape w) x a n (outcome s d)) (sym (heap-of r c)) q
 
-    pub second-gives : isNoRoom s ≡ false → Resizes wide b a n (outcome s d)
+    pub second-gives : isNoRoom s ≡ false → Resizes (shape w) b a n (outcome s d)
     second-gives f =
         let o = outcome s d in
-        subst (λ (x : Outcome). Resizes wide b a n x) (goes-on r c (orNext o o) e ∙ stops s d o f)
-        (split-gives wide b a n (outcome r c) o o p (λ _. second) (λ _ g. absurd (not-six s d f g)))
+        subst (λ (x : Outcome). Resizes (shape w) b a n x) (goes-on r c (orNext o o) e ∙ stops s d o f)
+        (split-gives (shape w) b a n (outcome r c) o o p (λ _. second) (λ _ g. absurd (not-six s d f g)))
 
-    pub third-gives : isNoRoom s ≡ true → (t : Answer) → Keeps wide d a n (outcome t d) → Resizes wide b a n (outcome t d)
+    pub third-gives : isNoRoom s ≡ true → (t : Answer) → Keeps (shape w) d a n (outcome t d) → Resizes (shape w) b a n (outcome t d)
     third-gives f t k =
         let o = outcome t d in
-        subst (λ (x : Outcome). Resizes wide b a n x) (goes-on r c (orNext (outcome s d) o) e ∙ goes-on s d o f)
-        (split-gives wide b a n (outcome r c) (outcome s d) o p (λ _. second) (λ _ _. subst (λ (x : List ℕ). Keeps wide x a n o) (sym (heap-of s d)) k))
+        subst (λ (x : Outcome). Resizes (shape w) b a n x) (goes-on r c (orNext (outcome s d) o) e ∙ goes-on s d o f)
+        (split-gives (shape w) b a n (outcome r c) (outcome s d) o p (λ _. second) (λ _ _. subst (λ (x : List ℕ). Keeps (shape w) x a n o) (sym (heap-of s d)) k))

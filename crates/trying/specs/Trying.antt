@@ -2,9 +2,9 @@
 use mathlib.Core.Bool.{Bool, false}
 use lib.Dec.{eqb}
 use Rattle.model.specs.Refusals.{noRoom}
-use Rattle.heap.specs.declared.Answer.{Answer}
-use Rattle.heap.specs.declared.Answer.the-variants.{Granted, Refused}
-use Rattle.heap.specs.Answers.{refusalNumber}
+use Rattle.serving.specs.declared.Answer.{Answer}
+use Rattle.serving.specs.declared.Answer.the-variants.{Granted, Refused}
+use Rattle.examining.specs.Examined.{refusalNumber}
 
 -- an answer is 6
 abbrev pub isNoRoom : Answer → Bool

@@ -41,11 +41,18 @@ named-bit wd y = widths (λ w. offsetBit w (nextIn (shape w) y) ≡ y / (16 * w)
 next-is : (c : tie.After-class-and-flags) → c .before .offset-bit .result ≡ c .before .before .before .wrapping-sub-usize .result / (16 * c .before .before .before .before .before .args .w)
 next-is c = c .before .offset-bit .ensures ∙ ap (λ (x : ℕ). offsetBit (c .before .before .before .before .before .args .w) x) (c .before .before .next-in .ensures) ∙ named-bit (c .before .before .before .before .before .pre .0) _
 
+-- class and flags, moved up, and the bit above them fit into 64 bits
+high : (c : tie.After-class-and-flags) → (c .class-and-flags .result * (2 ^ 60 / c .before .before .before .before .before .args .w) < 2 ^ 64) × (c .before .offset-bit .result + c .class-and-flags .result * (2 ^ 60 / c .before .before .before .before .before .args .w) < 2 ^ 64)
+high c = rw (next-is c, c .class-and-flags .ensures) (next-fits (c .before .before .before .before .before .pre .0) (c .before .before .before .wrapping-sub-usize .result) (fits c))
+
+div-result : tie.Need-div-result
+div-result c = omega (arith, c .before .before .before .before .before .pre .0)
+
 mul-result : tie.Need-mul-result
-mul-result c = omega (arith, next-fits (c .before .before .before .before .before .pre .0) (c .before .before .before .wrapping-sub-usize .result) (fits c), c .class-and-flags .ensures)
+mul-result c = omega (arith, high c .0)
 
 add-result : tie.Need-add-result
-add-result c = omega (arith, next-fits (c .before .before .before .before .before .pre .0) (c .before .before .before .wrapping-sub-usize .result) (fits c), next-is c, c .class-and-flags .ensures)
+add-result c = omega (arith, high c .1)
 
 returns : tie.Need-returns
 returns c = rw (next-is c, c .class-and-flags .ensures) (record { near = next-near (c .before .before .before .before .before .pre .0) _ _ _ (c .before .before .before .before .before .pre .1) (fits c) (differs c); far = next-far (c .before .before .before .before .before .pre .0) _ _ _ (c .before .before .before .before .before .pre .1) (fits c) (differs c) })
@@ -59,6 +66,7 @@ next-bit-spec =
     next-in-requires
     offset-bit-requires
     class-and-flags-requires
+    div-result
     mul-result
     add-result
     returns)

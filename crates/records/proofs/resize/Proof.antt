@@ -6,7 +6,7 @@ use Rattle.records.proofs.resize.Statement.{statement}
 use Rattle.records.proofs.resize.Tie as tie
 use Rattle.records.proofs.resize.Reads as reads
 use Rattle.records.proofs.resize.Lts as lts
-use Rattle.trying.proofs.resize.Reads as resize-reads
+use Rattle.heap.proofs.resize.Reads as resize-reads
 use Rattle.records.proofs.told.Reads as told-reads
 
 sub-resize : tie.Need-sub-resize

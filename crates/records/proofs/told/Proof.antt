@@ -3,7 +3,7 @@ use Rattle.records.proofs.told.Statement.{statement}
 use Rattle.records.proofs.told.Tie as tie
 use Rattle.records.proofs.told.Reads as reads
 use Rattle.records.proofs.told.Lts as lts
-use Rattle.heap.proofs.refusal_number.Reads as refusal-number-reads
+use Rattle.examining.proofs.refusal_number.Reads as refusal-number-reads
 
 enum-known-r : tie.Need-enum-known-r
 enum-known-r c = search needs

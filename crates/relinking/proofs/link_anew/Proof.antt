@@ -1,5 +1,6 @@
-use Rattle.relinking.proofs.Leaves.{short-table, wide-table, hand-table}
+use Rattle.relinking.proofs.Leaves.{most-roomy}
 use Rattle.relinking.proofs.LinkLaws.{all-empty}
+use native.Mathlib.Omega.{arith}
 use borrow.Author.Needs.{needs}
 use Rattle.relinking.proofs.link_anew.Statement.{statement}
 use Rattle.relinking.proofs.link_anew.Tie as tie
@@ -21,11 +22,14 @@ same-length c = search needs
 returns : tie.Need-returns
 returns c = all-empty (c .before .before .before .before .before .pre) (λ i. c .before .before .before .before .slice-known .given i .fits) _ _ (c .before .before .first-listed .ensures) (c .before .classes .ensures) (c .if1 .taken)
 
+is-roomy-requires : tie.Need-is-roomy-requires
+is-roomy-requires c κs = (c .before .before .before .before .before .pre .short, omega arith)
+
 slice-aggregate-link-classes : tie.Need-slice-aggregate-link-classes
 slice-aggregate-link-classes c = search needs
 
 link-classes-requires : tie.Need-link-classes-requires
-link-classes-requires c κs = ((c .before .before .before .before .before .before .before .before .pre, c .before .before .before .before .before .first-listed .ensures), hand-table _ _ (c .before .before .if2 .taken) (c .before .before .before .before .before .before .before .before .pre .short))
+link-classes-requires c κs = ((c .before .before .before .before .before .before .before .before .before .pre, c .before .before .before .before .before .before .first-listed .ensures), c .before .before .before .is-roomy .ensures .0 (c .before .before .if2 .taken))
 
 same-length-2 : tie.Need-same-length-2
 same-length-2 c = search needs
@@ -33,11 +37,14 @@ same-length-2 c = search needs
 returns-2 : tie.Need-returns-2
 returns-2 c = search needs
 
+is-roomy-requires-2 : tie.Need-is-roomy-requires-2
+is-roomy-requires-2 c κs = (c .before .before .before .before .before .before .before .pre .short, omega arith)
+
 slice-aggregate-link-classes-2 : tie.Need-slice-aggregate-link-classes-2
 slice-aggregate-link-classes-2 c = search needs
 
 link-classes-requires-2 : tie.Need-link-classes-requires-2
-link-classes-requires-2 c κs = ((c .before .before .before .before .before .before .before .before .before .pre, c .before .before .before .before .before .before .first-listed .ensures), short-table _ _ (c .before .before .before .if2 .left) (c .before .before .if3 .taken))
+link-classes-requires-2 c κs = ((c .before .before .before .before .before .before .before .before .before .before .before .pre, c .before .before .before .before .before .before .before .before .first-listed .ensures), c .before .before .before .is-roomy2 .ensures .0 (c .before .before .if3 .taken))
 
 same-length-3 : tie.Need-same-length-3
 same-length-3 c = search needs
@@ -49,7 +56,7 @@ slice-aggregate-link-classes-3 : tie.Need-slice-aggregate-link-classes-3
 slice-aggregate-link-classes-3 c = search needs
 
 link-classes-requires-3 : tie.Need-link-classes-requires-3
-link-classes-requires-3 c κs = ((c .before .before .before .before .before .before .before .before .before .pre, c .before .before .before .before .before .before .first-listed .ensures), wide-table _ _ (c .before .before .before .if2 .left) (c .before .before .before .before .before .before .before .before .before .pre .short))
+link-classes-requires-3 c κs = ((c .before .before .before .before .before .before .before .before .before .before .before .pre, c .before .before .before .before .before .before .before .before .first-listed .ensures), most-roomy (c .before .before .before .before .before .before .before .before .before .before .before .pre .width) _ (c .before .before .before .before .before .before .before .before .before .before .before .pre .short))
 
 same-length-4 : tie.Need-same-length-4
 same-length-4 c = search needs
@@ -65,10 +72,12 @@ link-anew-spec =
     classes-requires
     same-length
     returns
+    is-roomy-requires
     slice-aggregate-link-classes
     link-classes-requires
     same-length-2
     returns-2
+    is-roomy-requires-2
     slice-aggregate-link-classes-2
     link-classes-requires-2
     same-length-3

@@ -4,7 +4,7 @@ use Rattle.trying.proofs.says_no_room.Statement.{statement}
 use Rattle.trying.proofs.says_no_room.Tie as tie
 use Rattle.trying.proofs.says_no_room.Reads as reads
 use Rattle.trying.proofs.says_no_room.Lts as lts
-use Rattle.heap.proofs.refusal_number.Reads as refusal-number-reads
+use Rattle.examining.proofs.refusal_number.Reads as refusal-number-reads
 
 enum-told : tie.Need-enum-told
 enum-told c = search needs

@@ -6,14 +6,14 @@ use Rattle.asking.proofs.answers.answer_table.Tie as tie
 use Rattle.asking.proofs.answers.answer_table.Reads as reads
 use Rattle.asking.proofs.answers.answer_table.Lts as lts
 use Rattle.asking.proofs.answers.write_row.Reads as write-row-reads
-use Rattle.heap.proofs.class_table.Reads as class-table-reads
+use Rattle.serving.proofs.counting.class_table.Reads as class-table-reads
 use Rattle.showing.proofs.text.write.Reads as write-reads
 
 abbrev Inv-loop : tie.InvT-loop
-Inv-loop h rows c₀ c = c ≤ wide .classes
+Inv-loop w h rows c₀ c = c ≤ wide .classes
 
 abbrev μ-loop : tie.MeasureT-loop
-μ-loop h rows c₀ c = wide .classes - c
+μ-loop w h rows c₀ c = wide .classes - c
 
 class-table-requires : tie.Need-class-table-requires Inv-loop μ-loop
 class-table-requires c κs = search needs

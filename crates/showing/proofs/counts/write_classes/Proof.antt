@@ -1,20 +1,21 @@
 use Prim.Native.Nat.{_-_, _≤_}
-use Rattle.model.specs.Shape.{wide}
-use Rattle.model.proofs.Sizes.{eight}
+use mathlib.Core.Path.{_≡_}
+use Rattle.model.specs.Shape.{shape}
 use borrow.Author.Needs.{needs}
 use Rattle.showing.proofs.counts.write_classes.Statement.{statement}
 use Rattle.showing.proofs.counts.write_classes.Tie as tie
 use Rattle.showing.proofs.counts.write_classes.Reads as reads
 use Rattle.showing.proofs.counts.write_classes.Lts as lts
+use Rattle.model.proofs.classes.Reads as classes-reads
 use Rattle.reading.proofs.counting.tabulate.Reads as tabulate-reads
 use Rattle.showing.proofs.counts.write_class.Reads as write-class-reads
 use Rattle.showing.proofs.text.write.Reads as write-reads
 
 abbrev Inv-loop : tie.InvT-loop
-Inv-loop h rows c₀ c = c ≤ wide .classes
+Inv-loop w h rows count c₀ c = (count ≡ shape w .classes) × (c ≤ count)
 
 abbrev μ-loop : tie.MeasureT-loop
-μ-loop h rows c₀ c = wide .classes - c
+μ-loop w h rows count c₀ c = count - c
 
 slice-aggregate-write : tie.Need-slice-aggregate-write Inv-loop μ-loop
 slice-aggregate-write c = search needs
@@ -23,7 +24,10 @@ write-requires : tie.Need-write-requires Inv-loop μ-loop
 write-requires c κs = search needs
 
 tabulate-requires : tie.Need-tabulate-requires Inv-loop μ-loop
-tabulate-requires c κs = (eight, c .before .before .before .pre)
+tabulate-requires c κs = c .before .before .before .pre
+
+classes-requires : tie.Need-classes-requires Inv-loop μ-loop
+classes-requires c κs = search needs
 
 loop-holds : tie.Need-loop-holds Inv-loop μ-loop
 loop-holds c = search needs
@@ -58,6 +62,7 @@ write-classes-spec =
     slice-aggregate-write
     write-requires
     tabulate-requires
+    classes-requires
     loop-holds
     mul-write-class
     array-copy-out-write-class

@@ -17,10 +17,10 @@ use Rattle.showing.proofs.map.block_mark.Reads as block-mark-reads
 use Rattle.showing.proofs.map.draw.Reads as draw-reads
 
 abbrev Inv-loop : tie.InvT-loop
-Inv-loop h part end p₀ pen₀ p pen = WalkAt 8 h (p .0) × (end .0 ≡ endOf (length h)) × (pen .column < 64) × (1 ≤ part) × (part < 2 ^ 63)
+Inv-loop w h part end p₀ pen₀ p pen = WalkAt w h (p .0) × (end .0 ≡ endOf (length h)) × (pen .column < 64) × (1 ≤ part) × (part < 2 ^ 63)
 
 abbrev μ-loop : tie.MeasureT-loop
-μ-loop h part end p₀ pen₀ p pen = end .0 - p .0
+μ-loop w h part end p₀ pen₀ p pen = end .0 - p .0
 
 end-of-requires : tie.Need-end-of-requires Inv-loop μ-loop
 end-of-requires c κs = search needs
@@ -29,13 +29,13 @@ start-requires : tie.Need-start-requires Inv-loop μ-loop
 start-requires c κs = search needs
 
 loop-holds : tie.Need-loop-holds Inv-loop μ-loop
-loop-holds c = (walk-first _ _ (c .start .ensures) (c .before .before .before .pre .0), c .before .end-of .ensures, omega arith, c .before .before .before .pre .1, c .before .before .before .pre .2)
+loop-holds c = (walk-first (c .before .before .before .pre .0) _ _ (c .start .ensures) (c .before .before .before .pre .1), c .before .end-of .ensures, omega arith, c .before .before .before .pre .2, c .before .before .before .pre .3)
 
 block-at-requires : tie.Need-block-at-requires Inv-loop μ-loop
 block-at-requires c κs = (c .before .before .before .loop .inv .0, omega arith)
 
-add-t10 : tie.Need-add-t10 Inv-loop μ-loop
-add-t10 c = omega (arith, c .before .before .block-at .ensures .inside)
+add-t11 : tie.Need-add-t11 Inv-loop μ-loop
+add-t11 c = omega (arith, c .before .before .block-at .ensures .inside)
 
 block-mark-requires : tie.Need-block-mark-requires Inv-loop μ-loop
 block-mark-requires c κs = own-place (c .before .before .block-at .ensures)
@@ -62,7 +62,7 @@ draw-all-spec =
     start-requires
     loop-holds
     block-at-requires
-    add-t10
+    add-t11
     block-mark-requires
     draw-requires
     loop-less

@@ -18,7 +18,7 @@ start-requires : tie.Need-start-requires
 start-requires c κs = search needs
 
 sub-part : tie.Need-sub-part
-sub-part c = omega (arith, area _ (c .before .before .before .before .before .pre))
+sub-part c = omega (arith, area _ _ (c .before .before .before .before .before .pre .1))
 
 add-part : tie.Need-add-part
 add-part c = search needs

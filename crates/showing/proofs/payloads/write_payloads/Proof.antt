@@ -17,10 +17,10 @@ use Rattle.showing.proofs.payloads.write_held.Reads as write-held-reads
 use Rattle.showing.proofs.text.write.Reads as write-reads
 
 abbrev Inv-loop : tie.InvT-loop
-Inv-loop h end p₀ p = WalkAt 8 h (p .0) × (end .0 ≡ endOf (length h))
+Inv-loop w h end p₀ p = WalkAt w h (p .0) × (end .0 ≡ endOf (length h))
 
 abbrev μ-loop : tie.MeasureT-loop
-μ-loop h end p₀ p = end .0 - p .0
+μ-loop w h end p₀ p = end .0 - p .0
 
 slice-aggregate-write : tie.Need-slice-aggregate-write Inv-loop μ-loop
 slice-aggregate-write c = search needs
@@ -35,7 +35,7 @@ start-requires : tie.Need-start-requires Inv-loop μ-loop
 start-requires c κs = search needs
 
 loop-holds : tie.Need-loop-holds Inv-loop μ-loop
-loop-holds c = (walk-first _ _ (c .start .ensures) (c .before .before .before .before .before .pre), c .before .end-of .ensures)
+loop-holds c = (walk-first (c .before .before .before .before .before .pre .0) _ _ (c .start .ensures) (c .before .before .before .before .before .pre .1), c .before .end-of .ensures)
 
 block-at-requires : tie.Need-block-at-requires Inv-loop μ-loop
 block-at-requires c κs = (c .before .before .before .loop .inv .0, omega arith)
@@ -43,8 +43,8 @@ block-at-requires c κs = (c .before .before .before .loop .inv .0, omega arith)
 write-held-requires : tie.Need-write-held-requires Inv-loop μ-loop
 write-held-requires c κs = own-place (c .block-at .ensures)
 
-add-t12 : tie.Need-add-t12 Inv-loop μ-loop
-add-t12 c = omega (arith, c .before .before .before .block-at .ensures .inside)
+add-t13 : tie.Need-add-t13 Inv-loop μ-loop
+add-t13 c = omega (arith, c .before .before .before .block-at .ensures .inside)
 
 loop-less : tie.Need-loop-less Inv-loop μ-loop
 loop-less c = omega (arith, c .before .before .before .block-at .ensures .least)
@@ -68,7 +68,7 @@ write-payloads-spec =
     loop-holds
     block-at-requires
     write-held-requires
-    add-t12
+    add-t13
     loop-less
     loop-again
     returns)

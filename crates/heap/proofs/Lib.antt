@@ -1,9 +1,0 @@
-mod Opening
-mod Examining
-mod Allocating
-mod Freeing
-mod Resizing
-mod Sweeping
-mod Answering
-pub mod Outcomes
-pub mod Together

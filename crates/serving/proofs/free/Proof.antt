@@ -1,0 +1,55 @@
+use Rattle.serving.proofs.Freeing.{gave-back, nothing-there}
+use Rattle.examining.proofs.Examining.{refuses, decides}
+use Rattle.serving.proofs.Readied.{ready}
+use borrow.Author.Needs.{needs}
+use Rattle.serving.proofs.free.Statement.{statement}
+use Rattle.serving.proofs.free.Tie as tie
+use Rattle.serving.proofs.free.Reads as reads
+use Rattle.serving.proofs.free.Lts as lts
+use Rattle.engine.proofs.free.free.Reads as free-reads
+use Rattle.examining.proofs.examine.Reads as examine-reads
+
+examine-requires : tie.Need-examine-requires
+examine-requires c κs = search needs
+
+enum-known-v : tie.Need-enum-known-v
+enum-known-v c = search needs
+
+enum-told : tie.Need-enum-told
+enum-told c = search needs
+
+free-requires : tie.Need-free-requires
+free-requires c κs = ready (c .before .before .before .before .before .before .pre) _ _ (c .before .before .before .examine .ensures) (c .before .enum-told .given .1)
+
+same-length : tie.Need-same-length
+same-length c = search needs
+
+returns : tie.Need-returns
+returns c = decides _ _ _ _ _ (c .before .before .before .before .before .before .before .examine .ensures) (c .before .before .before .before .before .enum-told .given .1) _ (λ L h. gave-back _ _ _ _ _ (c .before .before .before .free .ensures) L h (c .if1 .taken))
+
+same-length-2 : tie.Need-same-length-2
+same-length-2 c = search needs
+
+returns-2 : tie.Need-returns-2
+returns-2 c = refuses _ _ _ _ _ _ (c .before .before .before .examine .ensures) (c .before .v .given .1)
+
+same-length-3 : tie.Need-same-length-3
+same-length-3 c = search needs
+
+returns-3 : tie.Need-returns-3
+returns-3 c = decides _ _ _ _ _ (c .before .before .before .before .before .before .before .examine .ensures) (c .before .before .before .before .before .enum-told .given .1) _ (λ L h. nothing-there _ _ _ _ _ (c .before .before .before .free .ensures) L h (c .if1 .left))
+
+pub free-spec : {M : Type 1} → statement M
+free-spec =
+    tie.close
+    (tie.spec
+    examine-requires
+    enum-known-v
+    enum-told
+    free-requires
+    same-length
+    returns
+    same-length-2
+    returns-2
+    same-length-3
+    returns-3)

@@ -1,0 +1,52 @@
+use Rattle.examining.proofs.Examining.{sized-refuses, sized-decides}
+use Rattle.serving.proofs.Readied.{ready-for}
+use Rattle.serving.proofs.Resizing.{resizes}
+use borrow.Author.Needs.{needs}
+use Rattle.serving.proofs.resize.resize_in_place.Statement.{statement}
+use Rattle.serving.proofs.resize.resize_in_place.Tie as tie
+use Rattle.serving.proofs.resize.resize_in_place.Reads as reads
+use Rattle.serving.proofs.resize.resize_in_place.Lts as lts
+use Rattle.examining.proofs.examine_for.Reads as examine-for-reads
+use Rattle.serving.proofs.resize.resized_or_not.Reads as resized-or-not-reads
+use Rattle.resizing.proofs.resize.stay.Reads as stay-reads
+
+examine-for-requires : tie.Need-examine-for-requires
+examine-for-requires c κs = search needs
+
+enum-known-v : tie.Need-enum-known-v
+enum-known-v c = search needs
+
+enum-told : tie.Need-enum-told
+enum-told c = search needs
+
+stay-requires : tie.Need-stay-requires
+stay-requires c κs = ready-for (c .before .before .before .before .before .before .pre) _ _ _ (c .before .before .before .examine-for .ensures) (c .before .enum-told .given .1)
+
+resized-or-not-requires : tie.Need-resized-or-not-requires
+resized-or-not-requires c κs = search needs
+
+same-length : tie.Need-same-length
+same-length c = search needs
+
+returns : tie.Need-returns
+returns c = sized-refuses _ _ _ _ _ _ (c .before .before .before .examine-for .ensures) (c .before .v .given .1)
+
+same-length-2 : tie.Need-same-length-2
+same-length-2 c = search needs
+
+returns-2 : tie.Need-returns-2
+returns-2 c = sized-decides _ _ _ _ _ (c .before .before .before .before .before .before .before .examine-for .ensures) (c .before .before .before .before .before .enum-told .given .1) _ (resizes _ _ _ _ _ _ _ _ (c .before .before .before .stay .ensures) (c .resized-or-not .ensures))
+
+pub resize-in-place-spec : {M : Type 1} → statement M
+resize-in-place-spec =
+    tie.close
+    (tie.spec
+    examine-for-requires
+    enum-known-v
+    enum-told
+    stay-requires
+    resized-or-not-requires
+    same-length
+    returns
+    same-length-2
+    returns-2)
