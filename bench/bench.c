@@ -1,8 +1,15 @@
 /* Does one call on a heap, once by the library and once by the twin, between marks that icount counts:
    region 0 is ours, region 1 is the twin's. Both must answer alike and leave the same bytes.
-     bench HEAP-FILE CALL ADDRESS SIZE      (a number that the call does not take is 0) */
-#include "../include/jagwibodu.h"
+     bench HEAP-FILE CALL ADDRESS SIZE      (a number that the call does not take is 0)
+   As the twin's words are, so is the library: the console's, or the hand unit's. */
 #include "twin.h"
+#if TWIN_WORD == 8
+#include "../include/jagwibodu.h"
+#define OUR(call) jagwibodu_##call
+#else
+#include "../include/jagwibodu_hand.h"
+#define OUR(call) jagwibodu_hand_##call
+#endif
 
 #include <count.h>
 #include <stdint.h>
@@ -63,36 +70,35 @@ static void refresh(void)
 static void measure(const char *call, uint64_t address, uint64_t size)
 {
     if (!strcmp(call, "initialise")) {
-        BOTH(jagwibodu_initialise(ours, length), twin_initialise(twins, length));
+        BOTH(OUR(initialise)(ours, length), twin_initialise(twins, length));
         return;
     }
     if (!strcmp(call, "check")) {
-        BOTH(jagwibodu_check(ours, length), twin_check(twins, length));
+        BOTH(OUR(check)(ours, length), twin_check(twins, length));
         return;
     }
     if (!strcmp(call, "allocate")) {
-        BOTH(jagwibodu_allocate(ours, length, size), twin_allocate(twins, length, size));
+        BOTH(OUR(allocate)(ours, length, size), twin_allocate(twins, length, size));
         return;
     }
     if (!strcmp(call, "resize")) {
-        BOTH(jagwibodu_resize(ours, length, address, size), twin_resize(twins, length, address, size));
+        BOTH(OUR(resize)(ours, length, address, size), twin_resize(twins, length, address, size));
         return;
     }
     if (!strcmp(call, "resize_in_place")) {
-        BOTH(jagwibodu_resize_in_place(ours, length, address, size),
-             twin_resize_in_place(twins, length, address, size));
+        BOTH(OUR(resize_in_place)(ours, length, address, size), twin_resize_in_place(twins, length, address, size));
         return;
     }
     if (!strcmp(call, "move")) {
-        BOTH(jagwibodu_move(ours, length, address, size), twin_move(twins, length, address, size));
+        BOTH(OUR(move)(ours, length, address, size), twin_move(twins, length, address, size));
         return;
     }
     if (!strcmp(call, "free")) {
-        BOTH(jagwibodu_free(ours, length, address), twin_free(twins, length, address));
+        BOTH(OUR(free)(ours, length, address), twin_free(twins, length, address));
         return;
     }
     if (!strcmp(call, "sweep")) {
-        BOTH(jagwibodu_sweep(ours, length), twin_sweep(twins, length));
+        BOTH(OUR(sweep)(ours, length), twin_sweep(twins, length));
         return;
     }
     fail("no such call");

@@ -1,11 +1,14 @@
 #!/usr/bin/env python3
 """Counts the instructions of a library's heap calls against the plain C twin's.
 
-  table.py --library FILE.. [--prefix NAME] [--sizes LIST]
+  table.py [--shape NAME] --library FILE.. [--prefix NAME] [--sizes LIST]
 
+The shape is the console's (wide) or the hand unit's (hand), whose code is 64-bit
+code here too: the toolchain compiles for x86-64 alone.
 Prints a Markdown table, how each count grows with the heap, the library's size,
 what a sweep costs against a check and how it grows, and last the worst ratio of
-all rows; the status is 1 if one of these is over its limit.
+all rows, beyond what is let pass of the hand unit's; the status is 1 if one of
+these is over its limit.
 All that is built or fetched goes below target/. "--prefix twin_" without a
 library puts the twin on both sides.
 """
@@ -20,34 +23,39 @@ import sys
 ROOT = os.path.dirname(os.path.dirname(os.path.abspath(__file__)))
 sys.path.insert(0, os.path.join(ROOT, "compare"))
 sys.dont_write_bytecode = True  # products belong below target/
-from second import CLASSES, GRANTED, LARGEST_SIZE, NO_ROOM, VARIABLE, Heap  # noqa: E402
+from second import GRANTED, HAND, NO_ROOM, SHAPES, VARIABLE, WIDE, Heap  # noqa: E402
 
 PRODUCTS = os.path.join(ROOT, "target", "bench")
 CALLS = ("initialise", "check", "allocate", "resize", "resize_in_place", "move", "free", "sweep")
-SIZES = (10000, 65536, 1048576)
-KEPT, CANNOT_STAY, FULL = "it is kept for want of room", "it cannot stay", "there is no room"
+SIZES = {WIDE: (10000, 65536, 1048576), HAND: (1000, 10000, 65536)}
+OWN_PREFIX = {WIDE: "jagwibodu_", HAND: "jagwibodu_hand_"}
+HEADING = {WIDE: "heap", HAND: "hand unit's heap, 64-bit code"}
+MOVES, KEPT, CANNOT_STAY, FULL = "it moves", "it is kept for want of room", "it cannot stay", "there is no room"
+OLDER = "full of older items"
 LIMIT, SWEEP_TWIN_LIMIT = 1.05, 1.25  # no call may take more instructions than so many times the twin's; and no sweep
+# The hand unit's heaps are short: the map that a check clears, and the table that a sweep clears, are not lost in what they then take.
+CLEARED = {WIDE: (0, 0), HAND: (430, 1900)}  # so many instructions more are let pass for each check, and for a sweep
 SWEEP_LIMIT = 2.5  # a sweep of a heap with half its pages empty takes at most so many times what the check of it takes
-SWEEP_GROWTH_LIMIT, SWEEP_GROWS = 19, (65536, 1048576)  # and from the one length to the other it grows so many times at most
+SWEEP_GROWTH_LIMIT = 19 / 16  # and from the last length but one to the last it grows so many times as much as the heap at most
 
 
-def fresh(length):
-    heap = Heap(bytearray(length))
+def fresh(shape, length):
+    heap = Heap(bytearray(length), shape)
     heap.initialise()
     return heap
 
 
-def nearly_empty(length):
+def nearly_empty(shape, length):
     """A few records, one of them a tenth of the heap."""
-    heap = fresh(length)
+    heap = fresh(shape, length)
     for size in (40, length // 10, 40, 300, 40):
         heap.allocate(size)
     return heap
 
 
-def filled(length, first, size, part=None):
+def filled(shape, length, first, size, part=None):
     """A record, then records until there is no room; one of so many is freed, in scattered order, or none."""
-    rng, heap, records = random.Random(1), fresh(length), []
+    rng, heap, records = random.Random(1), fresh(shape, length), []
     heap.allocate(first)
     while True:
         refusal, address = heap.allocate(size(rng))
@@ -59,48 +67,59 @@ def filled(length, first, size, part=None):
     return heap
 
 
-def full_of_blocks(length):
-    """An item, and then blocks of mixed sizes above 256; a third of them is freed."""
-    return filled(length, 40, lambda rng: rng.randint(257, 900), 3)
+def sizes_of_blocks(shape, length, largest):
+    """Sizes by chance that get blocks, up to the largest or a fifth of the heap."""
+    return lambda rng: rng.randint(shape.largest_item + 1, min(largest, length // 5))
 
 
-def full_of_items(length):
+def sizes_of_items(shape):
+    """Sizes by chance that get items."""
+    return lambda rng: rng.randint(1, shape.largest_item)
+
+
+def full_of_blocks(shape, length):
+    """An item, and then blocks of mixed sizes; a third of them is freed."""
+    return filled(shape, length, 40, sizes_of_blocks(shape, length, 900), 3)
+
+
+def full_of_items(shape, length):
     """A block, and then items of the smallest class, for its sizes in turn; half of them is freed."""
     sizes = itertools.cycle(range(1, 9))
-    return filled(length, 600, lambda rng: next(sizes), 2)
+    return filled(shape, length, 600, lambda rng: next(sizes), 2)
 
 
-def full_of_older_items(length):
+def full_of_older_items(shape, length):
     """The same, from before sizes were kept."""
-    heap = full_of_items(length)
+    heap = full_of_items(shape, length)
     heap.state.asked.clear()
     heap.lay_out_whole()
     return heap
 
 
-def half_the_pages_empty(length):
-    """Full of the smallest items; every second page is emptied, and in the others one item of three is freed."""
-    heap = filled(length, 600, lambda rng: 8)
+def half_the_pages_empty(shape, length):
+    """Full of the smallest items; every second page is emptied, and in the others the first of every three items is freed."""
+    heap = filled(shape, length, 600, lambda rng: 8)
     for index, page in enumerate(sorted(heap.state.page_class)):
         for item in heap.state.items_of_page(page)[::3 if index % 2 else 1]:
-            heap.free(item + 8)
+            heap.free(item + shape.word)
     return heap
 
 
-def all_classes(length):
+def all_classes(shape, length):
     """A block, and then items of all classes by chance; half of them is freed."""
-    return filled(length, 600, lambda rng: rng.randint(1, 256), 2)
+    return filled(shape, length, 600, sizes_of_items(shape), 2)
 
 
-def mixed(length):
+def mixed(shape, length):
     """Items of all classes and blocks, in turn by chance; a third of them is freed."""
-    return filled(length, 40, lambda rng: rng.choice((rng.randint(1, 256), rng.randint(257, 2000))), 3)
+    sorts = sizes_of_items(shape), sizes_of_blocks(shape, length, 2000)
+    return filled(shape, length, 40, lambda rng: rng.choice([size(rng) for size in sorts]), 3)
 
 
 KINDS = {"empty": fresh, "nearly empty": nearly_empty, "full of blocks": full_of_blocks, "full of items": full_of_items,
          "mixed": mixed}
 # What only the check and the sweep are measured on.
-SWEPT = {"full of older items": full_of_older_items, "half the pages empty": half_the_pages_empty, "all classes": all_classes}
+SWEPT = {OLDER: full_of_older_items, "half the pages empty": half_the_pages_empty, "all classes": all_classes}
 
 
 def last(items):
@@ -110,18 +129,24 @@ def last(items):
 
 def class_with_items(state, but=None):
     """A class whose list is not empty."""
-    return next((c for c in range(CLASSES) if state.lists[c] and c != but), None)
+    return next((c for c, items in enumerate(state.lists) if items and c != but), None)
 
 
 def empty_class(state, but=None):
     """One whose list is empty: the first, whose page is the dearest to make."""
-    return next((c for c in range(CLASSES) if not state.lists[c] and c != but), None)
+    return next((c for c, items in enumerate(state.lists) if not items and c != but), None)
 
 
 def block_with(heap, is_right):
     """The address of the last variable block that a condition on position and size holds for."""
-    state = heap.state
-    return last(p + 8 for p in state.starts if state.blocks[p][0] == VARIABLE and is_right(p, state.blocks[p][1]))
+    blocks = heap.state.blocks
+    return last(p + heap.shape.word for p, (kind, size) in blocks.items() if kind == VARIABLE and is_right(p, size))
+
+
+def last_item(heap):
+    """The address of the last item in use, and its class; nothing where there is none."""
+    item = last(heap.state.item_class)
+    return (item + heap.shape.word, heap.state.item_class[item]) if item else (None, None)
 
 
 def allocations(heap):
@@ -133,13 +158,13 @@ def allocations(heap):
         yield "allocate the first item of a class", "allocate", 0, 8 * empty + 8
     if state.free:
         largest = max(state.blocks[p][1] for p in state.free)
-        yield "allocate a block", "allocate", 0, max(257, min(largest - 16, 500))
+        yield "allocate a block", "allocate", 0, max(heap.shape.largest_item + 1, min(largest - heap.shape.tags, 500))
 
 
 def frees(heap):
-    item, block = last(heap.state.item_class), block_with(heap, lambda p, size: True)
+    (item, _), block = last_item(heap), block_with(heap, lambda p, size: True)
     if item:
-        yield "free an item", "free", item + 8, 0
+        yield "free an item", "free", item, 0
     if block:
         yield "free a block", "free", block, 0
 
@@ -149,12 +174,12 @@ def frees(heap):
 def staying(heap):
     """Records that can have the new size where they stand."""
     state = heap.state
-    item, block = last(state.item_class), block_with(heap, lambda p, size: True)
+    (item, c), block = last_item(heap), block_with(heap, lambda p, size: True)
     if item:
-        yield "an item, it stays", item + 8, 8 * state.item_class[item] + 1  # with another size in its header
+        yield "an item, it stays", item, 8 * c + 1  # with another size in its header
     if block:
         yield "a block, it stays", block, state.capacity(block)
-    block = block_with(heap, lambda p, size: size >= 280 + 40)
+    block = block_with(heap, lambda p, size: size >= heap.shape.smallest_variable + 40)
     if block:
         yield "a block, it shrinks", block, state.capacity(block) - 40
     block = block_with(heap, lambda p, size: state.is_free(p + size))
@@ -165,9 +190,9 @@ def staying(heap):
 def stuck(heap):
     """Records that cannot have it there, whether there is room elsewhere or not."""
     state = heap.state
-    item, block = last(state.item_class), block_with(heap, lambda p, size: not state.is_free(p + size))
+    (item, _), block = last_item(heap), block_with(heap, lambda p, size: not state.is_free(p + size))
     if item:
-        yield "an item, " + CANNOT_STAY, item + 8, 300
+        yield "an item, " + CANNOT_STAY, item, 300
     if block:
         yield "a block, " + CANNOT_STAY, block, state.capacity(block) + 8
 
@@ -175,35 +200,36 @@ def stuck(heap):
 def moving(heap):
     """Records that cannot have it there, and go elsewhere if there is room."""
     state = heap.state
-    item, block = last(state.item_class), block_with(heap, lambda p, size: True)
+    (item, c), block = last_item(heap), block_with(heap, lambda p, size: True)
     if item:
-        other, empty = class_with_items(state, state.item_class[item]), empty_class(state, state.item_class[item])
+        other, empty = class_with_items(state, c), empty_class(state, c)
         if other is not None:
-            yield "an item, it moves to another class", item + 8, 8 * other + 8
+            yield f"an item, {MOVES} to another class", item, 8 * other + 8
         if empty is not None:
-            yield "an item, it moves to a new page", item + 8, 8 * empty + 8
-        yield "an item, it moves to a block", item + 8, 300
+            yield f"an item, {MOVES} to a new page", item, 8 * empty + 8
+        yield f"an item, {MOVES} to a block", item, 300
     if block and class_with_items(state) is not None:
-        yield "a block, it moves to an item", block, 8 * class_with_items(state) + 8
-    yield from moving_blocks(state)
+        yield f"a block, {MOVES} to an item", block, 8 * class_with_items(state) + 8
+    yield from moving_blocks(heap)
 
 
-def moving_blocks(state):
+def moving_blocks(heap):
     """The largest block that cannot grow and finds room elsewhere."""
+    state = heap.state
     largest_free = max((state.blocks[p][1] for p in state.free), default=0)
-    fits = [(size, p + 8) for p, (kind, size) in state.blocks.items()
+    fits = [(size, p + heap.shape.word) for p, (kind, size) in state.blocks.items()
             if kind == VARIABLE and not state.is_free(p + size) and size + 8 <= largest_free]
     if fits:
-        size, address = max(fits)
-        yield "a large block, it moves", address, size - 16 + 8
+        _, address = max(fits)
+        yield f"a large block, {MOVES}", address, state.capacity(address) + 8
 
 
 def kept(heap):
     """Records that would go to a new page, where there is no room for one."""
     state = heap.state
-    item, block = last(state.item_class), block_with(heap, lambda p, size: True)
-    if item and empty_class(state, state.item_class[item]) is not None:
-        yield "an item, " + KEPT, item + 8, 8 * empty_class(state, state.item_class[item]) + 8
+    (item, c), block = last_item(heap), block_with(heap, lambda p, size: True)
+    if item and empty_class(state, c) is not None:
+        yield "an item, " + KEPT, item, 8 * empty_class(state, c) + 8
     if block and empty_class(state) is not None:
         yield "a block, " + KEPT, block, 8 * empty_class(state) + 8
 
@@ -221,18 +247,18 @@ def resizes_in_place(heap):
 
 
 def moves(heap):
-    item, record = last(heap.state.item_class), last(heap.state.live_addresses())
+    (item, c), record = last_item(heap), last(heap.state.live_addresses())
     if item:
-        yield "move an item within its class", "move", item + 8, 8 * heap.state.item_class[item] + 8
+        yield "move an item within its class", "move", item, 8 * c + 8
     for what, address, size in moving(heap):
-        yield f"move {what.replace(', it moves', '')}", "move", address, size
+        yield f"move {what.replace(', ' + MOVES, '')}", "move", address, size
     if record:
-        yield f"move a record, {FULL}", "move", record, LARGEST_SIZE
+        yield f"move a record, {FULL}", "move", record, heap.shape.largest_size
 
 
 def comes_out(heap, name, call, address, size):
     """Whether the call ends as its name says."""
-    trial = Heap(bytearray(heap.data))
+    trial = Heap(bytearray(heap.data), heap.shape)
     arguments = {"allocate": (size,), "free": (address,)}.get(call, (address, size))
     refusal, _ = getattr(trial, call)(*arguments)
     wanted = NO_ROOM if name.endswith((CANNOT_STAY, FULL)) else GRANTED
@@ -247,10 +273,25 @@ def calls_on(kind, heap):
         yield from (row for row in sort(heap) if comes_out(heap, *row))
 
 
-def build(libraries, prefix):
-    program = os.path.join(PRODUCTS, "bench")
+def kinds(shape):
+    """The heaps that are measured. The hand unit has none from before sizes were kept."""
+    return {kind: make for kind, make in (KINDS | SWEPT).items() if shape is WIDE or kind != OLDER}
+
+
+def let_pass(shape, name):
+    """The instructions that a call may take besides its share of the twin's. A resize checks anew before each way that it tries."""
+    a_check, a_sweep = CLEARED[shape]
+    if name == "sweep":
+        return a_sweep
+    ways = 1 + (MOVES in name) + 2 * (KEPT in name) if name.startswith("resize") else 1
+    return ways * a_check
+
+
+def build(shape, libraries, prefix):
+    program = os.path.join(PRODUCTS, f"bench-{shape.name}")
     # the twin touches each page of its stack, as the library does
-    flags = "-fstack-clash-protection " + " ".join(f"-Djagwibodu_{name}={prefix}{name}" for name in CALLS)
+    flags = " ".join(("-fstack-clash-protection", f"-DTWIN_WORD={shape.word}",
+                      *(f"-D{OWN_PREFIX[shape]}{name}={prefix}{name}" for name in CALLS)))
     sources = [os.path.join(ROOT, "bench", name) for name in ("bench.c", "twin.c")]
     subprocess.run([os.path.join(ROOT, "tools", "chost"), "-o", program, *sources, *libraries], check=True,
                    env=dict(os.environ, CFLAGS=flags))
@@ -278,13 +319,13 @@ def saved(name, data):
     return path
 
 
-def rows(program, sizes):
+def rows(program, shape, sizes):
     """(length, kind of heap, name of the call, ours, the twin's)"""
     for length in sizes:
         yield length, "not opened", "initialise", *count(program, saved("zeros.heap", bytes(length)), "initialise", 0, 0)
-        for kind, make in (KINDS | SWEPT).items():
-            heap = make(length)
-            path = saved(f"{kind.replace(' ', '-')}-{length}.heap", heap.data)
+        for kind, make in kinds(shape).items():
+            heap = make(shape, length)
+            path = saved(f"{shape.name}-{kind.replace(' ', '-')}-{length}.heap", heap.data)
             for name, call, address, size in calls_on(kind, heap):
                 yield length, kind, name, *count(program, path, call, address, size)
 
@@ -300,45 +341,47 @@ def print_growth(counts):
 
 def over_limit(what, value, limit):
     """Prints how a value stands to its limit; whether it is over it."""
-    print(f"\n{what}: {value:.3f}; the limit is {limit}")
+    print(f"\n{what}: {value:.3f}; the limit is {limit:.4g}")
     return value > limit
 
 
-def sweeps_over_limits(counts):
+def sweeps_over_limits(shape, counts):
     """Whether a sweep of the heap with half its pages empty costs too much against its check, or grows too much."""
     checks, sweeps = (counts["half the pages empty", call] for call in ("check", "sweep"))
     over = [over_limit(f"sweep against check, {length:,}, half the pages empty", sweeps[length] / checks[length], SWEEP_LIMIT)
             for length in sweeps]
-    short, long = SWEEP_GROWS
+    short, long = SIZES[shape][-2:]
     if short in sweeps and long in sweeps:
         over.append(over_limit(f"sweep of {long:,} against {short:,}, half the pages empty", sweeps[long] / sweeps[short],
-                               SWEEP_GROWTH_LIMIT))
+                               SWEEP_GROWTH_LIMIT * long / short))
     return any(over)
 
 
 def options():
     parser = argparse.ArgumentParser(description="Counts instructions against the plain C twin.")
+    parser.add_argument("--shape", choices=SHAPES, default=WIDE.name, help="whose heap it is")
     parser.add_argument("--library", nargs="*", default=[], metavar="FILE", help=".a, .o or .c files with the calls")
-    parser.add_argument("--prefix", default="jagwibodu_", help="what the names of the calls begin with")
-    parser.add_argument("--sizes", default=",".join(map(str, SIZES)), help="lengths of the heaps")
+    parser.add_argument("--prefix", help="what the names of the calls begin with, if not as the archive's do")
+    parser.add_argument("--sizes", type=lambda text: [int(word) for word in text.split(",")], help="lengths of the heaps")
     return parser.parse_args()
 
 
 def main():
     chosen = options()
+    shape = SHAPES[chosen.shape]
     os.makedirs(PRODUCTS, exist_ok=True)
-    program = build(chosen.library, chosen.prefix)
-    print("| heap | call | ours | twin | ratio |\n|---|---|---:|---:|---:|")
+    program = build(shape, chosen.library, chosen.prefix or OWN_PREFIX[shape])
+    print(f"| {HEADING[shape]} | call | ours | twin | ratio |\n|---|---|---:|---:|---:|")
     counts, worst = {}, {}
-    for length, kind, name, ours, twin in rows(program, map(int, chosen.sizes.split(","))):
+    for length, kind, name, ours, twin in rows(program, shape, chosen.sizes or SIZES[shape]):
         counts.setdefault((kind, name), {})[length] = ours
         print(f"| {length:,}, {kind} | {name} | {ours:,} | {twin:,} | {ours / twin:.2f} |", flush=True)
-        row = ours / twin, f"{name}, {length:,}, {kind}"
+        row = (ours - let_pass(shape, name)) / twin, f"{name}, {length:,}, {kind}"
         worst[name == "sweep"] = max(worst.get(name == "sweep", row), row)
     print_growth(counts)
     for library in chosen.library:
         print(f"\n{os.path.basename(library)}: {os.path.getsize(library):,} bytes")
-    dear_sweeps = sweeps_over_limits(counts)
+    dear_sweeps = sweeps_over_limits(shape, counts)
     slow = [over_limit(f"worst ratio, {where}", ratio, SWEEP_TWIN_LIMIT if sweep else LIMIT)
             for sweep, (ratio, where) in sorted(worst.items(), reverse=True)]
     return 1 if dear_sweeps or any(slow) else 0

@@ -3,27 +3,69 @@
 #include <stdbool.h>
 #include <string.h>
 
-enum {
-    SHORTEST = 344,
-    LONGEST = 1048576,
-    LARGEST_SIZE = 1048576,
-    LARGEST_ITEM = 256,
-    FIRST_FREE = 24,
-    STORED_END = 32,
-    INDEX_LOW_TAG = 40,
-    INDEX_PAGE = 48,
-    INDEX_HIGH_TAG = 304,
-    DATA_AREA = 312,
-    INDEX_TAG = 275,
-    CLASSES = 32,
-    SMALLEST_FREE = 32,
-    SMALLEST_VARIABLE = 280,
-    SMALLEST_PAGE = 4112,
-    MOST_PAGES = (LONGEST - DATA_AREA) / SMALLEST_PAGE,
-    CHUNK = 128
+enum kind { FREE = 0, VARIABLE = 2, PAGE = 3 };
+
+/* What a word's size decides: the console's heap has words of 8 bytes, the hand unit's has words of 4. */
+#if TWIN_WORD == 8
+typedef uint64_t word;
+static const uint64_t MAGIC = 0x01636f6c6c617978;
+enum { LONGEST = 1048576, CLASSES = 32, SMALLEST_PAGE = 4112, WORD_SHIFT = 3 };
+
+/* The items of a page of each class: 4,096 divided by the item's size, and one more. */
+static const uint16_t page_items[CLASSES] = {
+    257, 171, 129, 103, 86, 74, 65, 57,
+    52, 47, 43, 40, 37, 35, 33, 31,
+    29, 27, 26, 25, 24, 23, 22, 21,
+    20, 19, 19, 18, 18, 17, 17, 16,
 };
 
-enum kind { FREE = 0, VARIABLE = 2, PAGE = 3 };
+static uint64_t items_in_page(uint64_t class)
+{
+    return page_items[class];
+}
+
+/* A function of its own at run time too: so the compiler keeps its loop over a page's items in registers. */
+#define LONG_LOOP __attribute__((noinline))
+#elif TWIN_WORD == 4
+typedef uint32_t word;
+static const uint64_t MAGIC = 0x02636f6c6c617978;
+enum { LONGEST = 65536, CLASSES = 16, SMALLEST_PAGE = 32, WORD_SHIFT = 2 };
+
+static uint64_t items_in_page(uint64_t class)
+{
+    (void)class;
+    return 2;
+}
+
+/* For two items a call costs more than it spares. */
+#define LONG_LOOP
+#else
+#error "TWIN_WORD: 8 or 4"
+#endif
+
+/* What follows from it. The magic number has 8 bytes in both heaps; all else that is stored is a word. */
+enum {
+    WORD = 1 << WORD_SHIFT,
+    DATA_AREA_WORD = 8,
+    INDEX_PAGE_WORD = DATA_AREA_WORD + WORD,
+    FIRST_FREE = INDEX_PAGE_WORD + WORD,
+    STORED_END = FIRST_FREE + WORD,
+    INDEX_LOW_TAG = STORED_END + WORD,
+    INDEX_PAGE = INDEX_LOW_TAG + WORD,
+    INDEX_HIGH_TAG = INDEX_PAGE + WORD * CLASSES,
+    DATA_AREA = INDEX_HIGH_TAG + WORD,
+    INDEX_TAG = DATA_AREA - INDEX_LOW_TAG + PAGE,
+    TAGS = 2 * WORD,
+    LARGEST_SIZE = LONGEST,
+    LARGEST_ITEM = 8 * CLASSES,
+    SMALLEST_FREE = 4 * WORD,
+    SMALLEST_VARIABLE = LARGEST_ITEM + 8 + TAGS,
+    SHORTEST = DATA_AREA + SMALLEST_FREE,
+    MOST_PAGES = (LONGEST - DATA_AREA) / SMALLEST_PAGE,
+    NEXT_SHIFT = 4 + WORD_SHIFT, /* in a free item's header, above class and flags: the next one's offset in words */
+    MAP_WORDS = LONGEST / WORD / 64,
+    CHUNK = 128
+};
 
 enum refusal {
     GRANTED,
@@ -36,8 +78,6 @@ enum refusal {
     ALREADY
 };
 
-static const uint64_t MAGIC = 0x01636f6c6c617978;
-
 static uint64_t refuse(enum refusal number)
 {
     return (uint64_t)number << 32;
@@ -45,14 +85,22 @@ static uint64_t refuse(enum refusal number)
 
 static uint64_t get(const uint8_t *h, uint64_t position)
 {
-    uint64_t word;
-    memcpy(&word, h + position, 8);
-    return word;
+    word stored;
+    memcpy(&stored, h + position, WORD);
+    return stored;
 }
 
-static void put(uint8_t *h, uint64_t position, uint64_t word)
+static void put(uint8_t *h, uint64_t position, uint64_t number)
 {
-    memcpy(h + position, &word, 8);
+    word stored = (word)number;
+    memcpy(h + position, &stored, WORD);
+}
+
+static bool has_magic(const uint8_t *h)
+{
+    uint64_t first;
+    memcpy(&first, h, 8);
+    return first == MAGIC;
 }
 
 static uint64_t end_of(size_t n)
@@ -74,23 +122,23 @@ static uint64_t size_of(uint64_t tag)
 
 static uint64_t need_of(uint64_t size)
 {
-    return ((size + 7) & ~(uint64_t)7) + 16;
+    return ((size + 7) & ~(uint64_t)7) + TAGS;
 }
 
 static uint64_t next_of(const uint8_t *h, uint64_t block)
 {
-    return get(h, block + 8);
+    return get(h, block + WORD);
 }
 
 static uint64_t previous_of(const uint8_t *h, uint64_t block)
 {
-    return get(h, block + size_of(get(h, block)) - 16);
+    return get(h, block + size_of(get(h, block)) - 2 * WORD);
 }
 
 static void put_tags(uint8_t *h, uint64_t block, uint64_t size, uint64_t kind)
 {
     put(h, block, size + kind);
-    put(h, block + size - 8, size + kind);
+    put(h, block + size - WORD, size + kind);
 }
 
 /* Items. */
@@ -102,20 +150,7 @@ static uint64_t class_of(uint64_t size)
 
 static uint64_t item_size(uint64_t class)
 {
-    return 8 * class + 16;
-}
-
-/* The items of a page of each class: 4,096 divided by the item's size, and one more. */
-static const uint16_t page_items[CLASSES] = {
-    257, 171, 129, 103, 86, 74, 65, 57,
-    52, 47, 43, 40, 37, 35, 33, 31,
-    29, 27, 26, 25, 24, 23, 22, 21,
-    20, 19, 19, 18, 18, 17, 17, 16,
-};
-
-static uint64_t items_in_page(uint64_t class)
-{
-    return page_items[class];
+    return 8 * class + 8 + WORD;
 }
 
 static uint64_t class_in(uint64_t header)
@@ -125,7 +160,7 @@ static uint64_t class_in(uint64_t header)
 
 static uint64_t next_in(uint64_t header)
 {
-    return header / 128 * 8;
+    return (header >> NEXT_SHIFT) * WORD;
 }
 
 static uint64_t free_header(uint64_t class, uint64_t next)
@@ -158,39 +193,45 @@ static uint64_t least_header(uint64_t class)
 
 static uint64_t head_of(const uint8_t *h, uint64_t class)
 {
-    return get(h, INDEX_PAGE + 8 * class);
+    return get(h, INDEX_PAGE + WORD * class);
 }
 
 static void put_head(uint8_t *h, uint64_t class, uint64_t offset)
 {
-    put(h, INDEX_PAGE + 8 * class, offset);
+    put(h, INDEX_PAGE + WORD * class, offset);
 }
 
-/* The check. The map has a bit for each word from the index page on, so that a free item's header, shifted by 7,
-   is the bit of the next item on its list. A bit that is set marks the free item whose header stands there; bit 0,
+/* The check. The map has a bit for each word from the index page on, so that a free item's header has the number of
+   the next item's bit above class and flags. A bit that is set marks the free item whose header stands there; bit 0,
    the end of a list, has never a mark. The lists have to show as many marked items as there are: an item names one
    next item, so a list that ends shows none twice. */
 
 struct marks {
     uint64_t count;
     uint64_t top; /* the bits below it are cleared; from it on there is no mark */
-    uint64_t map[LONGEST / 512];
+    uint64_t map[MAP_WORDS];
 };
 
 /* Low bits that ought to be 0 become the highest: one comparison refuses them and a number that is too large. */
-static uint64_t rotate_right(uint64_t word, unsigned bits)
+static uint64_t rotate_right(uint64_t number, unsigned bits)
 {
-    return word >> bits | word << (64 - bits);
+    return number >> bits | number << (64 - bits);
 }
 
 static uint64_t bit_of(uint64_t position)
 {
-    return (position - INDEX_PAGE) / 8;
+    return (position - INDEX_PAGE) / WORD;
+}
+
+/* Blocks are eights of bytes long. */
+static uint64_t words_in(uint64_t eights)
+{
+    return 8 / WORD * eights;
 }
 
 static bool fixed_words_right(const uint8_t *h, uint64_t end)
 {
-    return get(h, 8) == DATA_AREA && get(h, 16) == INDEX_PAGE && get(h, STORED_END) == end
+    return get(h, DATA_AREA_WORD) == DATA_AREA && get(h, INDEX_PAGE_WORD) == INDEX_PAGE && get(h, STORED_END) == end
         && get(h, INDEX_LOW_TAG) == INDEX_TAG && get(h, INDEX_HIGH_TAG) == INDEX_TAG;
 }
 
@@ -199,8 +240,8 @@ static void clear_to(struct marks *marks, uint64_t bit)
 {
     uint64_t words = 2 * (bit / 64 + 1);
 
-    if (words > LONGEST / 512)
-        words = LONGEST / 512;
+    if (words > MAP_WORDS)
+        words = MAP_WORDS;
     memset(marks->map + marks->top / 64, 0, 8 * words - marks->top / 8);
     marks->top = 64 * words;
 }
@@ -208,7 +249,7 @@ static void clear_to(struct marks *marks, uint64_t bit)
 /* Whether each item in use of a page has a size of its class, or one that is not known. */
 static bool sizes_right(const uint8_t *h, uint64_t page, uint64_t class)
 {
-    uint64_t position = page + 8;
+    uint64_t position = page + WORD;
 
     for (uint64_t left = items_in_page(class); left != 0; left--) {
         uint64_t header = get(h, position);
@@ -221,14 +262,13 @@ static bool sizes_right(const uint8_t *h, uint64_t page, uint64_t class)
 
 /* Whether a page of so many words is right; marks its free items, and counts them. What a free item's header has
    besides the next item, and one in use besides the size, is judged once, of all together; items in use are looked at
-   one by one only where the size of some is not known, or wrong. A function of its own at run time too: so the compiler
-   keeps its loop in registers. */
-static __attribute__((noinline)) bool page_right(const uint8_t *h, uint64_t page, uint64_t words, struct marks *marks)
+   one by one only where the size of some is not known, or wrong. */
+static LONG_LOOP bool page_right(const uint8_t *h, uint64_t page, uint64_t words, struct marks *marks)
 {
-    uint64_t class = class_in(get(h, page + 8));
-    uint32_t step = item_size(class) / 8;
+    uint64_t class = class_in(get(h, page + WORD));
+    uint32_t step = item_size(class) / WORD;
     uint64_t need = items_in_page(class) * step;
-    uint64_t bit = bit_of(page + 8);
+    uint64_t bit = bit_of(page + WORD);
     uint64_t stop = bit + need;
     uint64_t count = marks->count;
     uint64_t wrong = 0;
@@ -238,7 +278,7 @@ static __attribute__((noinline)) bool page_right(const uint8_t *h, uint64_t page
         return false;
     /* the sum of 32 bits keeps the compiler from counting the place beside the bit */
     for (; bit < stop; bit = (uint32_t)bit + step) {
-        uint64_t header = get(h, INDEX_PAGE + 8 * bit);
+        uint64_t header = get(h, INDEX_PAGE + WORD * bit);
         if (header & 2) {
             above |= header - least_header(class);
         } else {
@@ -248,20 +288,20 @@ static __attribute__((noinline)) bool page_right(const uint8_t *h, uint64_t page
         }
     }
     marks->count = count;
-    return wrong % 128 == 0 && (same_class(above) || sizes_right(h, page, class));
+    return wrong % (1 << NEXT_SHIFT) == 0 && (same_class(above) || sizes_right(h, page, class));
 }
 
 /* Whether a free block can stand behind the last one, where "link" has to name it. The tag before it tells whether it
    touches that; before the first block it is the index page's. */
-static bool free_right(const uint8_t *h, uint64_t block, uint64_t words, uint64_t previous, uint64_t link)
+static bool free_right(const uint8_t *h, uint64_t block, uint64_t eights, uint64_t previous, uint64_t link)
 {
-    return words >= SMALLEST_FREE / 8 && get(h, link) == block && kind_of(get(h, block - 8)) != FREE
-        && get(h, block + 8 * words - 16) == previous;
+    return eights >= SMALLEST_FREE / 8 && get(h, link) == block && kind_of(get(h, block - WORD)) != FREE
+        && get(h, block + 8 * eights - 2 * WORD) == previous;
 }
 
 /* Whether the blocks and the list of the free ones are right; marks the free items. For each kind one comparison tells
-   whether the tag is of that kind and the block within the words that are left. Blocks that are no pages have a loop of
-   their own, so that the compiler keeps it in registers. */
+   whether the tag is of that kind and the block within the eights of bytes that are left. Blocks that are no pages have
+   a loop of their own, so that the compiler keeps it in registers. */
 static bool blocks_right(const uint8_t *h, uint64_t end, struct marks *marks)
 {
     uint64_t position = DATA_AREA;
@@ -270,38 +310,38 @@ static bool blocks_right(const uint8_t *h, uint64_t end, struct marks *marks)
     uint64_t link = FIRST_FREE;
 
     for (;;) {
-        uint64_t tag, words;
+        uint64_t tag, eights;
         for (;;) {
             if (left == 0)
                 return get(h, link) == 0;
             tag = get(h, position);
-            words = rotate_right(tag - VARIABLE, 3);
-            if (words <= left) {
-                if (words < SMALLEST_VARIABLE / 8 || get(h, position + 8 * words - 8) != tag)
+            eights = rotate_right(tag - VARIABLE, 3);
+            if (eights <= left) {
+                if (eights < SMALLEST_VARIABLE / 8 || get(h, position + 8 * eights - WORD) != tag)
                     return false;
-                position += 8 * words;
-                left -= words;
+                position += 8 * eights;
+                left -= eights;
                 continue;
             }
-            words = rotate_right(tag - FREE, 3);
-            if (words > left)
+            eights = rotate_right(tag - FREE, 3);
+            if (eights > left)
                 break;
-            if (!free_right(h, position, words, previous_free, link) || get(h, position + 8 * words - 8) != tag)
+            if (!free_right(h, position, eights, previous_free, link) || get(h, position + 8 * eights - WORD) != tag)
                 return false;
             previous_free = position;
-            link = position + 8;
-            position += 8 * words;
-            left -= words;
+            link = position + WORD;
+            position += 8 * eights;
+            left -= eights;
         }
-        words = rotate_right(tag - PAGE, 3);
-        if (words > left || words < SMALLEST_PAGE / 8 || get(h, position + 8 * words - 8) != tag)
+        eights = rotate_right(tag - PAGE, 3);
+        if (eights > left || eights < SMALLEST_PAGE / 8 || get(h, position + 8 * eights - WORD) != tag)
             return false;
-        if (bit_of(position) + words > marks->top)
-            clear_to(marks, bit_of(position) + words);
-        if (!page_right(h, position, words, marks))
+        if (bit_of(position) + words_in(eights) > marks->top)
+            clear_to(marks, bit_of(position) + words_in(eights));
+        if (!page_right(h, position, words_in(eights), marks))
             return false;
-        position += 8 * words;
-        left -= words;
+        position += 8 * eights;
+        left -= eights;
     }
 }
 
@@ -313,12 +353,12 @@ static bool list_right(const uint8_t *h, uint64_t class, const struct marks *mar
 
     if (head == 0)
         return true;
-    for (uint64_t bit = rotate_right(head, 3); bit < marks->top;) {
+    for (uint64_t bit = rotate_right(head, WORD_SHIFT); bit < marks->top;) {
         if (!(marks->map[(uint32_t)bit / 64] >> bit % 64 & 1))
             return bit == 0;
         if ((*count)-- == 0)
             return false;
-        bit = rotate_right(get(h, INDEX_PAGE + 8 * bit) - free, 7);
+        bit = rotate_right(get(h, INDEX_PAGE + WORD * bit) - free, NEXT_SHIFT);
     }
     return false;
 }
@@ -363,7 +403,7 @@ uint64_t twin_check(const uint8_t *h, size_t n)
 {
     if (n < SHORTEST || n > LONGEST)
         return refuse(BAD_LENGTH);
-    if (get(h, 0) != MAGIC)
+    if (!has_magic(h))
         return refuse(NO_HEAP);
     return is_sound(h, end_of(n)) ? GRANTED : refuse(NOT_SOUND);
 }
@@ -373,18 +413,18 @@ uint64_t twin_check(const uint8_t *h, size_t n)
 static void link_free(uint8_t *h, uint64_t block, uint64_t size, uint64_t previous, uint64_t next)
 {
     put_tags(h, block, size, FREE);
-    put(h, block + 8, next);
-    put(h, block + size - 16, previous);
-    put(h, previous ? previous + 8 : FIRST_FREE, block);
+    put(h, block + WORD, next);
+    put(h, block + size - 2 * WORD, previous);
+    put(h, previous ? previous + WORD : FIRST_FREE, block);
     if (next)
-        put(h, next + size_of(get(h, next)) - 16, block);
+        put(h, next + size_of(get(h, next)) - 2 * WORD, block);
 }
 
 static void unlink_free(uint8_t *h, uint64_t previous, uint64_t next)
 {
-    put(h, previous ? previous + 8 : FIRST_FREE, next);
+    put(h, previous ? previous + WORD : FIRST_FREE, next);
     if (next)
-        put(h, next + size_of(get(h, next)) - 16, previous);
+        put(h, next + size_of(get(h, next)) - 2 * WORD, previous);
 }
 
 /* Makes a used block out of "whole" free bytes, whose free block stood between two others in the list. */
@@ -421,7 +461,7 @@ static uint64_t take_block(uint8_t *h, uint64_t need, uint64_t kind)
    before them. Answers the free block that they are then in. */
 static uint64_t release_block(uint8_t *h, uint64_t block, uint64_t size, uint64_t previous)
 {
-    uint64_t next = get(h, previous ? previous + 8 : FIRST_FREE);
+    uint64_t next = get(h, previous ? previous + WORD : FIRST_FREE);
 
     if (next == block + size) {
         size += get(h, next);
@@ -442,11 +482,11 @@ static bool make_page(uint8_t *h, uint64_t class)
 {
     uint64_t step = item_size(class);
     uint64_t items = items_in_page(class);
-    uint64_t page = take_block(h, items * step + 16, PAGE);
+    uint64_t page = take_block(h, items * step + TAGS, PAGE);
 
     if (page == 0)
         return false;
-    uint64_t first = page + 8;
+    uint64_t first = page + WORD;
     uint64_t left = (items - 1) * step;
     uint64_t header = free_header(class, first + left - INDEX_PAGE);
     put_head(h, class, first - INDEX_PAGE);
@@ -468,7 +508,7 @@ static uint64_t take_item(uint8_t *h, uint64_t size)
     uint64_t item = head_of(h, class) + INDEX_PAGE;
     put_head(h, class, next_in(get(h, item)));
     put(h, item, used_header(class, size));
-    return item + 8;
+    return item + WORD;
 }
 
 static void release_item(uint8_t *h, uint64_t item, uint64_t class)
@@ -491,13 +531,13 @@ struct live {
 
 static void find_item(const uint8_t *h, struct live *live, uint64_t address)
 {
-    uint64_t class = class_in(get(h, live->block + 8));
-    uint64_t from_first = address - (live->block + 16); /* huge if the address is before the first item's */
+    uint64_t class = class_in(get(h, live->block + WORD));
+    uint64_t from_first = address - (live->block + 2 * WORD); /* huge if the address is before the first item's */
     uint64_t step = item_size(class);
 
     if (from_first % step != 0 || from_first / step >= items_in_page(class))
         return;
-    uint64_t header = get(h, address - 8);
+    uint64_t header = get(h, address - WORD);
     live->is_item = true;
     live->class = class;
     live->asked = asked_in(header);
@@ -531,7 +571,7 @@ static struct live find(const uint8_t *h, uint64_t end, uint64_t address)
         live.size = size_of(tag);
         if (address < live.block + live.size) {
             if (kind_of(tag) == VARIABLE)
-                live.found = address == live.block + 8;
+                live.found = address == live.block + WORD;
             else if (kind_of(tag) == PAGE)
                 find_item(h, &live, address);
             return live;
@@ -547,13 +587,13 @@ static uint64_t allocate(uint8_t *h, uint64_t size)
     if (size <= LARGEST_ITEM)
         return take_item(h, size);
     uint64_t block = take_block(h, need_of(size), VARIABLE);
-    return block ? block + 8 : 0;
+    return block ? block + WORD : 0;
 }
 
 static void release(uint8_t *h, const struct live *live, uint64_t address)
 {
     if (live->is_item)
-        release_item(h, address - 8, live->class);
+        release_item(h, address - WORD, live->class);
     else
         release_block(h, live->block, live->size, live->previous_free);
 }
@@ -564,7 +604,7 @@ static bool resize_in_place(uint8_t *h, const struct live *live, uint64_t addres
     if (live->is_item) {
         if (class_of(size) != live->class)
             return false;
-        put(h, address - 8, used_header(live->class, size));
+        put(h, address - WORD, used_header(live->class, size));
         return true;
     }
     if (size <= LARGEST_ITEM)
@@ -578,7 +618,7 @@ static bool resize_in_place(uint8_t *h, const struct live *live, uint64_t addres
         return true;
     }
     uint64_t previous = live->previous_free;
-    uint64_t next = get(h, previous ? previous + 8 : FIRST_FREE);
+    uint64_t next = get(h, previous ? previous + WORD : FIRST_FREE);
     if (next != live->block + live->size || live->size + get(h, next) < need)
         return false;
     use(h, live->block, need, live->size + get(h, next), VARIABLE, previous, next_of(h, next));
@@ -619,7 +659,7 @@ static void copy(uint8_t *to, const uint8_t *from, uint64_t size)
 
 static uint64_t capacity_of(const struct live *live)
 {
-    return live->is_item ? 8 * live->class + 8 : live->size - 16;
+    return live->is_item ? 8 * live->class + 8 : live->size - TAGS;
 }
 
 /* How many of its bytes count. */
@@ -646,7 +686,7 @@ static uint64_t move(uint8_t *h, struct live *live, uint64_t address, uint64_t s
 
 static uint64_t live_items(const uint8_t *h, uint64_t page, uint64_t class)
 {
-    uint64_t item = page + 8;
+    uint64_t item = page + WORD;
     uint64_t count = 0;
 
     for (uint64_t left = items_in_page(class); left != 0; left--) {
@@ -666,7 +706,7 @@ static uint64_t give_back_pages(uint8_t *h, uint64_t end)
 
     while (position != end) {
         uint64_t tag = get(h, position);
-        if (kind_of(tag) == PAGE && live_items(h, position, class_in(get(h, position + 8))) == 0) {
+        if (kind_of(tag) == PAGE && live_items(h, position, class_in(get(h, position + WORD))) == 0) {
             position = previous_free = release_block(h, position, size_of(tag), previous_free);
             tag = get(h, position);
             count++;
@@ -691,7 +731,7 @@ static uint64_t find_pages(const uint8_t *h, uint64_t end, uint64_t class, struc
 
     for (uint64_t position = DATA_AREA; position != end; position += size_of(tag)) {
         tag = get(h, position);
-        if (kind_of(tag) != PAGE || class_in(get(h, position + 8)) != class)
+        if (kind_of(tag) != PAGE || class_in(get(h, position + WORD)) != class)
             continue;
         pages[count].position = (uint32_t)position;
         pages[count].live = (uint32_t)live_items(h, position, class);
@@ -703,7 +743,7 @@ static uint64_t find_pages(const uint8_t *h, uint64_t end, uint64_t class, struc
 /* Puts the free items of a page before those of a list, the last one first; answers the list's new head. */
 static uint64_t link_items(uint8_t *h, uint64_t page, uint64_t class, uint64_t head)
 {
-    uint64_t item = page + 8 + items_in_page(class) * item_size(class);
+    uint64_t item = page + WORD + items_in_page(class) * item_size(class);
 
     for (uint64_t left = items_in_page(class); left != 0; left--) {
         item -= item_size(class);
@@ -759,14 +799,14 @@ uint64_t twin_initialise(uint8_t *h, size_t n)
 
     if (n < SHORTEST || n > LONGEST)
         return refuse(BAD_LENGTH);
-    if (get(h, 0) == MAGIC)
+    if (has_magic(h))
         return refuse(ALREADY);
-    put(h, 0, MAGIC);
-    put(h, 8, DATA_AREA);
-    put(h, 16, INDEX_PAGE);
+    memcpy(h, &MAGIC, 8);
+    put(h, DATA_AREA_WORD, DATA_AREA);
+    put(h, INDEX_PAGE_WORD, INDEX_PAGE);
     put(h, STORED_END, end);
     put(h, INDEX_LOW_TAG, INDEX_TAG);
-    memset(h + INDEX_PAGE, 0, 8 * CLASSES);
+    memset(h + INDEX_PAGE, 0, WORD * CLASSES);
     put(h, INDEX_HIGH_TAG, INDEX_TAG);
     link_free(h, DATA_AREA, end - DATA_AREA, 0, 0);
     return GRANTED;

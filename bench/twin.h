@@ -1,10 +1,14 @@
-/* The heap of document 01 in plain C, as a yardstick for speed.
+/* The heap in plain C, as a yardstick for speed: document 01's, or compiled with -DTWIN_WORD=4 the hand unit's.
    Each call answers refusal * 2^32 + address; a sweep, refusal * 2^32 + pages given back. */
 #ifndef TWIN_H
 #define TWIN_H
 
 #include <stddef.h>
 #include <stdint.h>
+
+#ifndef TWIN_WORD
+#define TWIN_WORD 8
+#endif
 
 uint64_t twin_initialise(uint8_t *h, size_t n);
 uint64_t twin_check(const uint8_t *h, size_t n);

@@ -4,12 +4,15 @@
   answer.py --make QUESTIONS ANSWERS    writes an example with every kind of question, granted and refused
 """
 
+import struct
 import sys
 import zlib
 
 sys.dont_write_bytecode = True
-from report import forget, granted, report
-from second import DATA_AREA, WORD, Heap
+from report import forget, granted, report, told_heap
+from second import WIDE, Heap
+
+NUMBER = struct.Struct("<Q")  # in the program's input; the heap's words are the shape's
 
 LOOK_UP, STEP, FIRST_STEP, STATISTICS, TABLE, REPORT, TURN_OVER = range(7)
 TURNED = bytes(range(255, -1, -1))  # each byte with all its bits turned over
@@ -28,7 +31,7 @@ def step_line(heap, position):
 
 
 def first_step_line(heap, _):
-    return step_line(heap, DATA_AREA)
+    return step_line(heap, heap.shape.data_area)
 
 
 def statistics_line(heap, _):
@@ -37,7 +40,10 @@ def statistics_line(heap, _):
 
 
 def table_line(heap, _):
-    return " ".join(["classes"] + [str(n) for row in heap.statistics()[2] for n in row])
+    """As many rows for every shape: those of classes that it has not are zeros."""
+    table = heap.statistics()[2]
+    rows = table + (WIDE.classes - len(table)) * [[0, 0, 0]]
+    return " ".join(["classes"] + [str(n) for row in rows for n in row])
 
 
 def report_lines(heap, _):
@@ -59,7 +65,7 @@ class Asked:
 
     def __init__(self, data):
         self.start = bytes(data)
-        self.heap = Heap(bytearray(data))
+        self.heap = told_heap(data)
         self.questions = []
         self.answers = []
 
@@ -69,12 +75,12 @@ class Asked:
 
     def given(self):
         """The heap and the questions as the program reads them."""
-        questions = b"".join(bytes([kind]) + WORD.pack(number) for kind, number in self.questions)
-        return b"".join((WORD.pack(len(self.start)), self.start, WORD.pack(len(self.questions)), questions))
+        questions = b"".join(bytes([kind]) + NUMBER.pack(number) for kind, number in self.questions)
+        return b"".join((NUMBER.pack(len(self.start)), self.start, NUMBER.pack(len(self.questions)), questions))
 
 
 def sample():
-    """A heap with every kind of block, and with live and free items; its length is no multiple of 8."""
+    """A heap of the console with every kind of block, and with live and free items; its length is no multiple of 8."""
     heap = Heap(bytearray(b"\x11" * 6001))
     heap.initialise()
     addresses = [heap.allocate(size)[1] for size in (300, 500, 280, 200, 199, 198, 197)]
@@ -93,7 +99,7 @@ def ask_everything(asked):
     asked.ask(TABLE)
     asked.ask(REPORT)
     asked.ask(FIRST_STEP)
-    for position in (*state.starts, state.end, 0, 48, DATA_AREA + 8, 2**64 - 8):
+    for position in (*state.starts, state.end, 0, WIDE.index_page, WIDE.data_area + 8, 2**64 - 8):
         asked.ask(STEP, position)
     for kind in (LOOK_UP, TURN_OVER, LOOK_UP):
         for address in (*live, 0, live[0] + 8, free + 8, page + 8, state.lists[24][0] + 8, state.end, 2**64 - 1):
@@ -122,14 +128,15 @@ def example():
     that there is not."""
     sound = sample()
     damaged, closed = bytearray(sound), bytearray(sound)
-    damaged[DATA_AREA] ^= 8
+    damaged[WIDE.data_area] ^= 8
     closed[0] ^= 1
-    all_asked = [Asked(data) for data in (sound, damaged[:344], closed[:344], b"", bytes(343))]
+    shortest = WIDE.shortest
+    all_asked = [Asked(data) for data in (sound, damaged[:shortest], closed[:shortest], b"", bytes(shortest - 1))]
     for asked in all_asked:
         ask_everything(asked)
     all_asked += remarks()
     answers = "".join(answer for asked in all_asked for answer in asked.answers)
-    none_such = WORD.pack(0) + WORD.pack(1) + bytes([TURN_OVER + 1]) + WORD.pack(0)
+    none_such = NUMBER.pack(0) + NUMBER.pack(1) + bytes([TURN_OVER + 1]) + NUMBER.pack(0)
     return b"".join(asked.given() for asked in all_asked) + none_such, answers + NO_QUESTION
 
 

@@ -11,10 +11,11 @@ import tempfile
 import time
 
 sys.dont_write_bytecode = True
-from answer import (CUT_SHORT, FIRST_STEP, LOOK_UP, NO_QUESTION, REPORT, STATISTICS, STEP, TABLE, TOO_LONG, TURN_OVER, Asked,
-                    sample)
-from heaps import LONG, Tally, enough_heaps, note, some_heaps
-from second import DATA_AREA, LONGEST, VARIABLE, WORD
+from answer import (CUT_SHORT, FIRST_STEP, LOOK_UP, NO_QUESTION, NUMBER, REPORT, STATISTICS, STEP, TABLE, TOO_LONG, TURN_OVER,
+                    Asked, sample)
+from heaps import Tally, enough_heaps, is_long, note, some_heaps
+from report import LONGEST_INPUT
+from second import SHAPES, VARIABLE, WIDE
 
 LIVE = ("live block", "live item", "older item")  # an older item is one whose size is not known
 HUGE = (2**32, 2**63, 2**64 - 8, 2**64 - 1)
@@ -29,52 +30,57 @@ def some(rng, places, most):
 
 def addresses(rng, state, length):
     """Addresses of each kind, by its name. Only those of the kinds in LIVE are live."""
-    blocks = [p + 8 for p in state.starts if state.blocks[p][0] == VARIABLE]
-    items, older = [p + 8 for p in state.asked], [p + 8 for p in state.item_class if p not in state.asked]
-    free_items = [p + 8 for items_of_class in state.lists for p in items_of_class]
+    word = state.shape.word
+    blocks = [p + word for p in state.starts if state.blocks[p][0] == VARIABLE]
+    items, older = [p + word for p in state.asked], [p + word for p in state.item_class if p not in state.asked]
+    free_items = [p + word for items_of_class in state.lists for p in items_of_class]
     live = some(rng, blocks + items + older, 3)
     inside = [a + rng.randrange(1, state.capacity(a)) for a in live]
     return {"live block": some(rng, blocks, 4), "live item": some(rng, items, 4),
             "older item": some(rng, older, 4),
-            "free block": [p + 8 for p in some(rng, state.free, 2)], "free item": some(rng, free_items, 2),
-            "page": [p + 8 for p in some(rng, state.page_class, 2)],
-            "inside": inside, "near": [a + 8 for a in live] + [a - 8 for a in live],
-            "past the end": [state.end, state.end + 8, length + rng.randrange(1, 2**20)],
-            "zero": [0], "huge": [rng.choice(HUGE), rng.choice(live or [320]) + 2**32]}
+            "free block": [p + word for p in some(rng, state.free, 2)], "free item": some(rng, free_items, 2),
+            "page": [p + word for p in some(rng, state.page_class, 2)],
+            "inside": inside, "near": [a + word for a in live] + [a - word for a in live],
+            "past the end": [state.end, state.end + word, length + rng.randrange(1, 2**20)],
+            "zero": [0], "huge": [rng.choice(HUGE), rng.choice(live or [state.shape.data_area + word]) + 2**32]}
 
 
 def positions(rng, state, length):
     """Positions at which no block begins, by their kind."""
-    starts = some(rng, state.starts, 2)
-    inside = [p + 8 * rng.randrange(1, state.blocks[p][1] // 8) for p in starts]
-    return {"no block's": [0, 40, 48, DATA_AREA - 8, *inside, *(p + 1 for p in starts)],
+    starts, shape = some(rng, state.starts, 2), state.shape
+    inside = [p + shape.word * rng.randrange(1, state.blocks[p][1] // shape.word) for p in starts]
+    other_areas = [other.data_area for other in SHAPES.values() if other != shape and other.data_area not in state.blocks]
+    return {"no block's": [0, shape.index_block, shape.index_page, shape.data_area - shape.word, *other_areas, *inside,
+                           *(p + 1 for p in starts)],
             "beyond the end": [state.end, state.end + 8, length + rng.randrange(2**20), rng.choice(HUGE)]}
 
 
 def ask_places(rng, asked, state, tally):
     """Look-ups and single steps, at places of every kind."""
-    refused = " in a refused heap" * (asked.heap.verdict != 0)
+    unit, refused = asked.heap.shape.name, " in a refused heap" * (asked.heap.verdict != 0)
     for what, found in addresses(rng, state, len(asked.start)).items():
         for address in found:
             asked.ask(LOOK_UP, address)
-            tally[f"look-up, {what}{refused}"] += 1
-            tally["look-up of less than it holds"] += not refused and state.shown(address) != state.capacity(address)
+            tally[f"{unit}: look-up, {what}{refused}"] += 1
+            tally[f"{unit}: look-up of less than it holds"] += not refused and state.shown(address) != state.capacity(address)
     for what, found in positions(rng, state, len(asked.start)).items():
         for position in found:
             asked.ask(STEP, position)
-            tally[f"step, {what}{refused}"] += 1
+            tally[f"{unit}: step, {what}{refused}"] += 1
 
 
 def ask_walk(asked, state, tally):
     """Every block from the start on, and the end twice; of a long heap some blocks alone."""
+    unit = asked.heap.shape.name
     if asked.heap.verdict:
         blocks = state.starts[:3]
-    elif len(asked.start) > LONG:
+    elif is_long(asked.heap.shape, asked.start):
         blocks = state.starts[:STEPS_OF_A_LONG_HEAP] + state.starts[-STEPS_OF_A_LONG_HEAP:]
     else:
         blocks = list(asked.heap.state.starts)
         tally["walk to the end"] += 1
-    tally["step, a block's"] += 0 if asked.heap.verdict else len(blocks)
+        tally[f"{unit}: walk to the end"] += 1
+    tally[f"{unit}: step, a block's"] += 0 if asked.heap.verdict else len(blocks)
     asked.ask(FIRST_STEP)
     for position in blocks + 2 * [state.end]:
         asked.ask(STEP, position)
@@ -87,7 +93,7 @@ def ask_writing(rng, asked, state, tally):
     written = some(rng, live, 3)
     for address in written + [0, rng.choice(chosen["past the end"] + chosen["inside"])]:
         asked.ask(TURN_OVER, address)
-    tally["written"] += 0 if asked.heap.verdict else len(written)
+    tally[f"{asked.heap.shape.name}: written"] += 0 if asked.heap.verdict else len(written)
     for address in written + some(rng, live, 3):
         asked.ask(LOOK_UP, address)
 
@@ -133,8 +139,8 @@ def compare(command, all_asked):
 
 def bad_inputs():
     """Input that is not as it should be, and what it gets; and, last, input that is."""
-    asked = Asked(sample()[:344])
-    for position in (312, 48):
+    asked = Asked(sample()[:WIDE.shortest])
+    for position in (WIDE.data_area, WIDE.index_page):
         asked.ask(STEP, position)
     given, size = asked.given(), 9  # of a question
     behind_heap = 8 + len(asked.start)
@@ -144,8 +150,8 @@ def bad_inputs():
     for more in (0, 1, size - 1):
         yield given[:behind_heap + 8 + more], CUT_SHORT
         yield given[:behind_heap + 8 + size + more], first + CUT_SHORT
-    for length in (LONGEST + 2, 2**32, 2**64 - 1):
-        yield given + WORD.pack(length) + given, both + TOO_LONG
+    for length in (LONGEST_INPUT + 2, 2**32, 2**64 - 1):
+        yield given + NUMBER.pack(length) + given, both + TOO_LONG
     for kind in (TURN_OVER + 1, 255):
         yield given[:-size] + bytes([kind]) + given[1 - size:], first + NO_QUESTION
     yield given, both
@@ -163,15 +169,16 @@ def compare_bad_inputs(command):
 
 
 def enough(count):
-    """How often each case must be met, of so many heaps."""
-    least = {f"look-up, {what}": count // 5 for what in (
+    """How often each case must be met, of so many heaps, half of them of either shape."""
+    half = count // 2
+    least = {f"look-up, {what}": half // 5 for what in (
         *LIVE, "free block", "free item", "page", "inside", "near", "past the end", "zero", "huge")}
-    least |= {f"look-up, {what} in a refused heap": count // 10 for what in (*LIVE, "inside", "zero")}
-    least |= {"step, a block's": 2 * count, "step, no block's": count, "step, beyond the end": count,
-              "step, no block's in a refused heap": count, "walk to the end": count // 4, "written": count // 2,
-              "look-up of less than it holds": count // 5}
-    least |= {kind: count for kind in (LOOK_UP, STEP, FIRST_STEP, STATISTICS, TABLE, REPORT, TURN_OVER)}
-    return least | enough_heaps(count)
+    least |= {f"look-up, {what} in a refused heap": half // 10 for what in (*LIVE, "inside", "zero")}
+    least |= {"step, a block's": 2 * half, "step, no block's": half, "step, beyond the end": half,
+              "step, no block's in a refused heap": half, "walk to the end": half // 4, "written": half // 2,
+              "look-up of less than it holds": half // 5}
+    return ({kind: count for kind in (LOOK_UP, STEP, FIRST_STEP, STATISTICS, TABLE, REPORT, TURN_OVER)}
+            | {f"{shape}: {case}": number for shape in SHAPES for case, number in least.items()} | enough_heaps(count))
 
 
 def main(count, seed, command):
@@ -180,10 +187,10 @@ def main(count, seed, command):
     compare(command, [ask_all(rng, what, data, state, tally) for what, data, state in some_heaps(rng, count)])
     bad = compare_bad_inputs(command)
     tally.demand(enough(count))
-    print(f"ask: on {tally['heaps']} heaps, {tally['refused']} of them refused, the answers to {tally[LOOK_UP]} look-ups, "
-          f"{tally[STEP] + tally[FIRST_STEP]} steps ({tally['walk to the end']} walks to the end), {tally[STATISTICS]} statistics, {tally[TABLE]} tables, "
-          f"{tally[TURN_OVER]} look-ups for writing and {tally[REPORT]} reports are the second program's, and so is what {bad} bad or short "
-          f"inputs get, {time.monotonic() - began:.0f} s")
+    print(f"ask: on {tally['heaps']} heaps, {tally['hand: heaps']} of them the hand unit's and {tally['refused']} of them refused, the "
+          f"answers to {tally[LOOK_UP]} look-ups, {tally[STEP] + tally[FIRST_STEP]} steps ({tally['walk to the end']} walks to the "
+          f"end), {tally[STATISTICS]} statistics, {tally[TABLE]} tables, {tally[TURN_OVER]} look-ups for writing and {tally[REPORT]} "
+          f"reports are the second program's, and so is what {bad} bad or short inputs get, {time.monotonic() - began:.0f} s")
 
 
 if __name__ == "__main__":

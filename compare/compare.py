@@ -1,11 +1,12 @@
 #!/usr/bin/env python3
 """Compares a library's heap calls with the second program, call by call and byte by byte.
 
-  compare.py --library FILE.. [--prefix NAME] [--seed S] [--number N] [--damaged D]
-  compare.py --library FILE.. --seed S --only KIND:INDEX
+  compare.py --library FILE.. [--shape SHAPE] [--prefix NAME] [--cflags WORDS] [--seed S] [--number N] [--damaged D]
+  compare.py --library FILE.. [--shape SHAPE] .. --seed S --only KIND:INDEX
 
-"--library bench/twin.c --prefix twin_" compares the plain C twin. The driver is
-built below target/compare. The figures that are run come first, then the sizes
+"--shape hand" is for the hand unit's library. "--library bench/twin.c --prefix
+twin_" compares the plain C twin, and with "--shape hand --cflags=-DTWIN_WORD=4" the
+one for the hand unit. The driver is built below target/compare. The figures that are run come first, then the sizes
 that an item's header can have, then runs on a heap and a longer one, random runs
 and damaged heaps; two processes share them. A failure prints the calls up to the
 first one that differs, and the status is 1.
@@ -26,12 +27,14 @@ from itertools import repeat
 sys.dont_write_bytecode = True  # products belong below target/
 from damage import damaged
 from heaps import Tally
-from runs import CALLS, RESIZES, Run, Player, full_of_pages, random_run, run_and_longer, sound_heap, swept_heap, swept_run
-from second import CLASSES, FIGURES, NO_ROOM, items_in_page, played
+from runs import (CALLS, HABITS, RESIZES, Player, Run, full_of_pages, random_run, run_and_longer, sound_heap, swept_heap,
+                  swept_run)
+from second import FIGURES, HAND, SHAPES, WIDE, played, sizes_of, used_header
 
 ROOT = os.path.dirname(os.path.dirname(os.path.abspath(__file__)))
 PRODUCTS = os.path.join(ROOT, "target", "compare")
 CHOST = os.path.join(ROOT, "tools", "chost")
+PREFIXES = {WIDE: "jagwibodu_", HAND: "jagwibodu_hand_"}  # of the calls in the header
 GUARD_FILL = b"\xa5"
 BATCH_BYTES = 16 << 20
 TIME_LIMIT = 120  # seconds for one batch, of which an emulator needs some
@@ -41,19 +44,22 @@ PAIRS = 20  # runs on a heap and on a longer one
 SWEPT = 300  # heaps that are swept above all
 # Classes whose pages fill the longest heap, and which shares of these pages are in use: the most items that there can be, in
 # pages of which many are empty; and the most pages, which all stay or all go.
-SWEPT_PAGES = ((0, (0, 0.5, 0.9, 1)), (1, (0.1, 0.5, 0.9, 1)), (1, (0,)))
-HEAPS_FROM_ONE = 25  # damaged heaps made from the same sound one
+SWEPT_PAGES = {WIDE: ((0, (0, 0.5, 0.9, 1)), (1, (0.1, 0.5, 0.9, 1)), (1, (0,))),
+               HAND: ((0, (0, 0.5, 1)), (0, (0.5,)), (0, (0,)))}
+HEAPS_FROM_ONE, HEAPS_FROM_A_LONG_ONE = 25, 2  # damaged heaps made from the same sound one
 # For so many damaged heaps there is at least one call that is refused as not sound: of each form of resize, and of sweep.
 REFUSED_SHARES = dict.fromkeys(RESIZES, 4) | {"sweep": 1}
-# Ways by which one at least of so many damaged heaps must be made.
-SIZE_SHARE = 500
+# Ways by which one at least of so many damaged heaps must be made: to do with sizes in headers, and with the bytes of a word.
+WAY_SHARE = 500
 SIZE_WAYS = ("size_not_known", "size_at_an_end_of_its_class", "size_of_its_class", "size_just_outside_its_class",
              "size_of_another_class", "huge_size", "two_wrong_sizes", "older_heap", "item_right_for_another_class")
+WORD_WAYS = {WIDE: (), HAND: (
+    "first_bytes_of_the_console", "used_item_of_a_class_of_the_console", "next_inside_a_word", "next_in_multiples_of_8",
+    "rest_of_8", "spare_bytes_as_a_free_block", "neighbouring_words_swapped", "small_free_block", "lone_small_free_block")}
 # What the random runs must meet, each at least once in so many calls.
-SHARES = {
+COMMON_SHARES = {
     "resize: kept for want of room": 1000,
     "resize: an item is kept": 2000,
-    "resize: an older item is kept": 2000,
     "resize_in_place: shrunk or grown": 250,
     "resize_in_place: an item has another size": 500,
     "resize_in_place: an older item has another size": 2000,
@@ -77,9 +83,18 @@ SHARES = {
     "sweep: 0, and no byte changes": 500,
     "sweep: lists of several classes change": 1000,
     "sweep: a full page stays out of a list": 2000,
-    "sweep: a fuller page comes before a lower one": 1000,
-    "sweep: unequal pages change places": 1000,
     "sweep: equal pages change places": 2500,
+}
+SHARES = {
+    WIDE: COMMON_SHARES | {
+        "resize: an older item is kept": 2000,
+        "sweep: a fuller page comes before a lower one": 1000,
+        "sweep: unequal pages change places": 1000,
+    },
+    # A page of two items that is on a list after a sweep has one in use, so none of them is fuller than another.
+    HAND: COMMON_SHARES | {
+        "resize: an older item is kept": 8000,  # pages are so short that there is nearly always room for one
+    },
 }
 
 
@@ -91,13 +106,14 @@ class Difference(Exception):
         self.run, self.index, self.lines = run, index, lines
 
 
-def build_driver(libraries, prefix):
+def build_driver(chosen):
     os.makedirs(PRODUCTS, exist_ok=True)
-    driver = os.path.join(PRODUCTS, "driver")
-    flags = " ".join(f"-Djagwibodu_{name}={prefix}{name}" for name in CALLS)
-    environment = dict(os.environ, CFLAGS=flags)
+    driver, own = os.path.join(PRODUCTS, f"driver-{chosen.shape.name}"), PREFIXES[chosen.shape]
+    flags = [f"-D{own}{name}={chosen.prefix or own}{name}" for name in CALLS]
+    flags += [chosen.cflags, "-DHAND_UNIT" if chosen.shape == HAND else ""]
+    environment = dict(os.environ, CFLAGS=" ".join(flags))
     source = os.path.join(ROOT, "compare", "driver.c")
-    subprocess.run([CHOST, "-o", driver, source, *libraries], check=True, env=environment)
+    subprocess.run([CHOST, "-o", driver, source, *chosen.library], check=True, env=environment)
     return driver
 
 
@@ -176,7 +192,7 @@ def check_run(run, answers, at, status):
             raise Difference(run, index, [f"the call never answered (status of the driver: {status})"]) from None
         outside = apply_ranges(got, ranges)
         if answer != second or outside or wanted != got:
-            raise Difference(run, index, describe(second, answer, wanted, got, outside))
+            raise Difference(run, index, describe(run.shape, second, answer, wanted, got, outside))
     return at
 
 
@@ -190,14 +206,15 @@ def apply_ranges(got, ranges):
     return outside_changed
 
 
-def describe(expected, actual, wanted, got, outside):
+def describe(shape, expected, actual, wanted, got, outside):
     lines = [f"expected: refusal {expected >> 32}, address or pages {expected % 2**32}",
              f"actual:   refusal {actual >> 32}, address or pages {actual % 2**32}"]
     if outside:
         lines.append("bytes outside the lent buffer were changed")
-    differing = [p for p in range(0, len(wanted), 8) if wanted[p:p + 8] != got[p:p + 8]]
+    word = shape.word
+    differing = [p for p in range(0, len(wanted), word) if wanted[p:p + word] != got[p:p + word]]
     for position in differing[:10]:
-        words = [int.from_bytes(side[position:position + 8], "little") for side in (wanted, got)]
+        words = [int.from_bytes(side[position:position + word], "little") for side in (wanted, got)]
         lines.append(f"word at {position}: expected {words[0]}, actual {words[1]}")
     if len(differing) > 10:
         lines.append(f"and {len(differing) - 10} more words")
@@ -206,11 +223,11 @@ def describe(expected, actual, wanted, got, outside):
 
 def report(difference, seed):
     run, last = difference.run, difference.index
-    path = os.path.join(PRODUCTS, "failed.heap")
+    path = os.path.join(PRODUCTS, f"failed-{run.shape.name}.heap")
     with open(path, "wb") as file:
         file.write(run.start)
-    print(f"compare: seed {seed}, {run.label} ({run.origin}): a difference at the last of these steps")
-    print(f"  heap of {len(run.start)} bytes, as in target/compare/failed.heap")
+    print(f"compare: {run.shape.name}, seed {seed}, {run.label} ({run.origin}): a difference at the last of these steps")
+    print(f"  heap of {len(run.start)} bytes, as in {os.path.relpath(path, ROOT)}")
     for name, first, second, _ in run.steps[:last + 1]:
         if name == "poke":
             print(f"  poke {first} {second.hex()}")
@@ -218,7 +235,7 @@ def report(difference, seed):
             print(f"  {name} {' '.join(map(str, first))} -> {second >> 32} {second % 2**32}")
     for line in difference.lines:
         print(line)
-    print(f"again: --seed {seed} --only {run.label}")
+    print(f"again: --shape {run.shape.name} --seed {seed} --only {run.label}")
 
 
 def generator(seed, label):
@@ -234,11 +251,11 @@ def check_second(run):
         raise SystemExit(f"compare: {run.label}: the second program lost track of its own heap")
 
 
-def figure_runs(figures, counts):
+def figure_runs(shape, figures, counts):
     """The figures that are run. The second program answers what they say, and so must the library."""
     for figure in figures:
-        length, *_ = FIGURES[figure]
-        run = Run(f"figure:{figure}", bytes(length), 0, "zeros")
+        length, *_ = FIGURES[shape][figure]
+        run = Run(shape, f"figure:{figure}", bytes(length), 0, "zeros")
         for got, wanted in played(figure, run.heap, run.do):
             if got != wanted:
                 raise SystemExit(f"compare: {run.label}: the second program gives {got} instead of {wanted}")
@@ -246,17 +263,18 @@ def figure_runs(figures, counts):
         yield run
 
 
-def size_runs(classes, counts):
+def size_runs(shape, classes, counts):
     """Of each class a full page, and in the header of its first and of its last item every size that might pass."""
     for c in classes:
-        run = Run(f"sizes:{c}", bytes(5000), 0, "zeros")
+        run = Run(shape, f"sizes:{c}", bytes(5000), 0, "zeros")
         run.call("initialise")
-        items = [run.call("allocate", 8 * c + 1 + i % 8)[1] for i in range(items_in_page(c))]
-        huge = [2**bit + size for bit in range(9, 57) for size in (0, 8 * c + 8)]
+        sizes = sizes_of(c)
+        items = [run.call("allocate", sizes[i % len(sizes)])[1] for i in range(shape.items_in_page(c))]
+        huge = [2**bit + size for bit in range(shape.largest_item.bit_length(), 8 * shape.word - 7) for size in (0, sizes[-1])]
         for item in (items[0], items[-1]):
             right = [size for size in (*range(1, 300), *huge, 0)
-                     if run.do("put", item - 8, 128 * size + 4 * c + 3) == run.call("check") == (0, 0)]
-            if right != [*range(8 * c + 1, 8 * c + 9), 0]:
+                     if run.do("put", item - shape.word, used_header(c, size)) == run.call("check") == (0, 0)]
+            if right != [*sizes, 0]:
                 raise SystemExit(f"compare: {run.label}: the second program takes the sizes {right}")
         counts["sizes"] += 2 * (300 + len(huge))
         yield run
@@ -269,47 +287,48 @@ def count_calls(run, counts):
     counts.update(run.met)
 
 
-def longer_runs(seed, labels, counts):
+def longer_runs(shape, seed, labels, counts):
     """Pairs of a run and the same run on a longer heap."""
     for label in labels:
-        shorter, longer = run_and_longer(generator(seed, label), label)
+        shorter, longer = run_and_longer(generator(seed, label), shape, label)
         counts["pairs"] += 1
         counts["pairs: pages are given back"] += shorter.met["sweep: a page is given back"]
         yield shorter
         yield longer
 
 
-def swept_runs(seed, labels, counts):
+def swept_runs(shape, seed, labels, counts):
     """Heaps that are swept above all; those with a label pages:INDEX are full of pages."""
     for label in labels:
         rng, (kind, index) = generator(seed, label), label.split(":")
-        run = swept_run(rng, label, full_of_pages(rng, *SWEPT_PAGES[int(index)]) if kind == "pages" else swept_heap(rng))
+        start = full_of_pages(rng, shape, *SWEPT_PAGES[shape][int(index)]) if kind == "pages" else swept_heap(rng, shape)
+        run = swept_run(rng, shape, label, start)
         check_second(run)
-        counts.update({case: met for case, met in run.met.items() if case.startswith("sweep")})  # the rest is for random runs to meet
+        counts.update({case: met for case, met in run.met.items() if case.startswith("sweep")})  # random runs shall meet the rest
         counts["swept"] += 1
         yield run
 
 
-def random_runs(seed, labels, number, counts):
+def random_runs(shape, seed, labels, number, counts):
     """Runs until there are this many calls."""
     while counts["calls"] < number:
         label = next(labels)
-        run = random_run(generator(seed, label), label)
+        run = random_run(generator(seed, label), shape, label)
         check_second(run)
         count_calls(run, counts)
         counts["heaps"] += 1
         yield run
 
 
-def damaged_runs(rng, label, count, counts):
+def damaged_runs(shape, rng, label, counts):
     """Some damaged heaps made from one sound heap, each with all the calls."""
-    low, high = rng.choices(((344, 4600), (4600, 30000), (150000, 1048576)), (10, 88, 2))[0]
+    habits = HABITS[shape]
+    low, high = rng.choices((habits.short, habits.usual, habits.long), (10, 88, 2))[0]
     length = rng.randint(low, high)
-    large = length > 30000
-    base = sound_heap(rng, length)
-    for _ in range(2 if large else count):
-        name, data, stays_sound = damaged(rng, base)
-        run = Run(label, data, rng.randrange(8), name)
+    base = sound_heap(rng, shape, length)
+    for _ in range(HEAPS_FROM_A_LONG_ONE if length >= habits.long[0] else HEAPS_FROM_ONE):
+        name, data, stays_sound = damaged(rng, shape, base)
+        run = Run(shape, label, data, rng.randrange(8), name)
         still_sound = run.heap.verdict == 0
         if stays_sound not in (None, still_sound):
             raise SystemExit(f"compare: {label} ({name}): the second program says {run.heap.verdict}")
@@ -331,29 +350,29 @@ def calls_on_damaged(rng, run):
     run.call("check")
 
 
-def all_damaged_runs(seed, labels, number, counts):
+def all_damaged_runs(shape, seed, labels, number, counts):
     while counts["damaged"] < number:
         label = next(labels)
-        for run in damaged_runs(generator(seed, label), label, HEAPS_FROM_ONE, counts):
+        for run in damaged_runs(shape, generator(seed, label), label, counts):
             count_calls(run, counts)
             yield run
 
 
-def one_run(seed, label, counts):
+def one_run(shape, seed, label, counts):
     """The figure, the sizes, the run, or the damaged heaps, of one label alone."""
     rng = generator(seed, label)
     if label.startswith("figure:"):
-        yield from figure_runs([label.removeprefix("figure:")], counts)
+        yield from figure_runs(shape, [label.removeprefix("figure:")], counts)
     elif label.startswith("sizes:"):
-        yield from size_runs([int(label.removeprefix("sizes:"))], counts)
+        yield from size_runs(shape, [int(label.removeprefix("sizes:"))], counts)
     elif label.startswith("longer:"):
-        yield from longer_runs(seed, [label], counts)
+        yield from longer_runs(shape, seed, [label], counts)
     elif label.startswith(("pages:", "swept:")):
-        yield from swept_runs(seed, [label], counts)
+        yield from swept_runs(shape, seed, [label], counts)
     elif label.startswith("run:"):
-        yield random_run(rng, label)
+        yield random_run(rng, shape, label)
     else:
-        yield from damaged_runs(rng, label, HEAPS_FROM_ONE, counts)
+        yield from damaged_runs(shape, rng, label, counts)
 
 
 def part_of_runs(part, chosen, counts, damaged_counts):
@@ -361,20 +380,23 @@ def part_of_runs(part, chosen, counts, damaged_counts):
     def labels(kind):
         return (f"{kind}:{index}" for index in itertools.count(part, PARTS))
 
-    seed = chosen.seed
-    yield from figure_runs([*FIGURES][part::PARTS], counts)
-    yield from size_runs(range(CLASSES)[part::PARTS], counts)
-    yield from longer_runs(seed, itertools.islice(labels("longer"), PAIRS // PARTS), counts)
-    yield from swept_runs(seed, [f"pages:{index}" for index in range(len(SWEPT_PAGES))][part::PARTS], counts)
-    yield from swept_runs(seed, itertools.islice(labels("swept"), SWEPT // PARTS), counts)
-    yield from random_runs(seed, labels("run"), chosen.number / PARTS, counts)
-    yield from all_damaged_runs(seed, labels("damaged"), chosen.damaged / PARTS, damaged_counts)
+    shape, seed = chosen.shape, chosen.seed
+    yield from figure_runs(shape, [*FIGURES[shape]][part::PARTS], counts)
+    yield from size_runs(shape, range(shape.classes)[part::PARTS], counts)
+    yield from longer_runs(shape, seed, itertools.islice(labels("longer"), PAIRS // PARTS), counts)
+    yield from swept_runs(shape, seed, [f"pages:{index}" for index in range(len(SWEPT_PAGES[shape]))][part::PARTS], counts)
+    yield from swept_runs(shape, seed, itertools.islice(labels("swept"), SWEPT // PARTS), counts)
+    yield from random_runs(shape, seed, labels("run"), chosen.number / PARTS, counts)
+    yield from all_damaged_runs(shape, seed, labels("damaged"), chosen.damaged / PARTS, damaged_counts)
 
 
 def compare_part(program, chosen, part):
     """Compares a part of all runs, or the only one; answers what it met, on damaged heaps too, and its driver."""
     counts, damaged_counts, driver = Tally(), Tally(), Driver(program)
-    runs = one_run(chosen.seed, chosen.only, counts) if chosen.only else part_of_runs(part, chosen, counts, damaged_counts)
+    if chosen.only:
+        runs = one_run(chosen.shape, chosen.seed, chosen.only, counts)
+    else:
+        runs = part_of_runs(part, chosen, counts, damaged_counts)
     for run in runs:
         driver.add(run)
     driver.finish()
@@ -393,13 +415,13 @@ def compare_side_by_side(program, chosen):
     return counts, damaged_counts, drivers
 
 
-def demand_enough(counts, damaged_counts):
+def demand_enough(shape, counts, damaged_counts):
     """Fails where some case was met too seldom."""
-    counts.demand({case: counts["calls"] // share for case, share in SHARES.items()})
+    counts.demand({case: counts["calls"] // share for case, share in SHARES[shape].items()})
     counts.demand({"pairs": PAIRS, "pairs: pages are given back": PAIRS})
     number = damaged_counts["damaged"]
     damaged_counts.demand({f"{call}: refused with 3": number // share for call, share in REFUSED_SHARES.items()})
-    damaged_counts.demand(dict.fromkeys(SIZE_WAYS, number // SIZE_SHARE))
+    damaged_counts.demand(dict.fromkeys(SIZE_WAYS + WORD_WAYS[shape], number // WAY_SHARE))
 
 
 def stack_used(drivers, calls, limit):
@@ -415,33 +437,37 @@ def stack_used(drivers, calls, limit):
 def options():
     parser = argparse.ArgumentParser(description="Compares a library's heap calls with the second program.")
     parser.add_argument("--library", nargs="+", required=True, metavar="FILE", help=".a, .o or .c files with the calls")
-    parser.add_argument("--prefix", default="jagwibodu_", help="what the names of the calls begin with")
+    parser.add_argument("--shape", choices=SHAPES, default=WIDE.name, help="whose heaps: the console's are wide")
+    parser.add_argument("--prefix", help="what the names of the calls begin with, where it is not the header's")
+    parser.add_argument("--cflags", default="", metavar="WORDS", help="for the compiler of .c files")
     parser.add_argument("--seed", default="1")
     parser.add_argument("--number", type=int, default=100000, help="calls in random runs")
     parser.add_argument("--damaged", type=int, default=5000, help="damaged heaps")
     parser.add_argument("--stack", type=int, metavar="BYTES", help="what a call may use, where it is not the header's")
     parser.add_argument("--only", metavar="KIND:INDEX", help="one run again, as a failure names it")
-    return parser.parse_args()
+    chosen = parser.parse_args()
+    chosen.shape = SHAPES[chosen.shape]
+    return chosen
 
 
 def main():
     chosen = options()
     began = time.monotonic()
     try:
-        counts, damaged_counts, drivers = compare_side_by_side(build_driver(chosen.library, chosen.prefix), chosen)
+        counts, damaged_counts, drivers = compare_side_by_side(build_driver(chosen), chosen)
     except Difference as difference:
         report(difference, chosen.seed)
         return 1
     if not chosen.only:
-        demand_enough(counts, damaged_counts)
+        demand_enough(chosen.shape, counts, damaged_counts)
     calls = counts["calls"] + damaged_counts["calls"]
     stack = stack_used(drivers, calls, chosen.stack)
-    print(f"compare: {counts['figures']} figures, {counts['sizes']} sizes in headers, and from seed {chosen.seed} "
+    print(f"compare: {chosen.shape.name}: {counts['figures']} figures, {counts['sizes']} sizes in headers, and from seed {chosen.seed} "
           f"{counts['pairs']} runs on a heap and a longer one, {counts['swept']} heaps that are swept above all, {calls} calls on "
           f"{counts['heaps']} heaps and {damaged_counts['damaged']} damaged heaps ({damaged_counts['still sound']} of them still "
           f"sound) agree, {stack}, {time.monotonic() - began:.0f} s")
     counts.update(damaged_counts)
-    print("compare: among them " + ", ".join(f"{counts[case]} of '{case}'" for case in SHARES))
+    print("compare: among them " + ", ".join(f"{counts[case]} of '{case}'" for case in SHARES[chosen.shape]))
     return 0
 
 

@@ -5,15 +5,15 @@ has nothing of the kind. Most change the abstract heap and lay it out anew, so
 that all is consistent but for the one thing that is wrong.
 """
 
-from second import (CLASSES, DATA_AREA, FIRST_FREE, FREE, INDEX_PAGE, LONGEST, PAGE, STORED_END, VARIABLE, WORD, Heap,
-                    item_size, items_in_page, word_at)
+from second import FREE, HAND, PAGE, SHAPES, VARIABLE, WIDE, Heap, end_of, free_header, sizes_of, used_header
 
-WAYS = []  # (way, verdict): True stays sound, False becomes unsound, None as it happens
+WAYS = {shape: [] for shape in SHAPES.values()}  # (way, verdict): True stays sound, False becomes unsound, None as it happens
 
 
-def way(stays_sound):
+def way(stays_sound, shapes=SHAPES.values()):
     def add(function):
-        WAYS.append((function, stays_sound))
+        for shape in shapes:
+            WAYS[shape].append((function, stays_sound))
         return function
     return add
 
@@ -21,25 +21,28 @@ def way(stays_sound):
 class Patient:
     """A heap to be damaged, with its abstract form."""
 
-    def __init__(self, rng, data):
+    def __init__(self, rng, shape, data):
         self.rng = rng
+        self.shape = shape
+        self.bits = 8 * shape.word
         self.data = bytearray(data)
-        self.heap = Heap(self.data)
+        self.heap = Heap(self.data, shape)
         self.state = self.heap.state
 
     def get(self, position):
-        return word_at(self.data, position)
+        return self.heap.word_at(position)
 
     def put(self, position, value):
-        WORD.pack_into(self.data, position, value % 2**64)
+        self.shape.words.pack_into(self.data, position, value % 2**self.bits)
 
     def spoil(self, position):
         """Puts another value at a position: near, far, huge or taken from elsewhere."""
-        old = self.get(position)
-        other = self.get(self.rng.randrange(len(self.data) // 8) * 8)
-        values = (0, 8, old + 8, old - 8, old + 1, old ^ 4, old ^ 2, old + 2**63, old + 2**32, other,
-                  2**64 - 8, 2**64 - 48, self.state.end, self.rng.getrandbits(64), 1 << self.rng.randrange(64))
-        self.put(position, self.rng.choice([v for v in values if v % 2**64 != old]))
+        old, word, bits = self.get(position), self.shape.word, self.bits
+        other = self.get(self.rng.randrange(len(self.data) // word) * word)
+        values = (0, 8, old + 8, old - 8, old + 1, old ^ 4, old ^ 2, old + 2**(bits - 1), old + 2**(bits // 2), other,
+                  2**bits - 8, 2**bits - self.shape.index_page, self.state.end, self.rng.getrandbits(bits),
+                  1 << self.rng.randrange(bits))
+        self.put(position, self.rng.choice([v for v in values if v % 2**bits != old]))
 
     def any_block(self, kind=None, smallest=0, before=None):
         """A random block of a kind and size; "before" is the kind of the block behind it."""
@@ -51,27 +54,34 @@ class Patient:
 
     def any_class(self, items=1):
         """A random class with at least so many free items."""
-        fits = [c for c in range(CLASSES) if len(self.state.lists[c]) >= items]
+        fits = [c for c in range(self.shape.classes) if len(self.state.lists[c]) >= items]
         return self.rng.choice(fits) if fits else None
+
+    def another_class(self, c):
+        return (c + self.rng.randrange(1, self.shape.classes)) % self.shape.classes
 
     def any_used_item(self):
         return self.rng.choice(list(self.state.item_class)) if self.state.item_class else None
 
     def put_tags(self, position, size, kind):
         self.put(position, size + kind)
-        self.put(position + size - 8, size + kind)
+        self.put(position + size - self.shape.word, size + kind)
 
     def size_in(self, c):
         """A size of class c."""
-        return 8 * c + self.rng.randint(1, 8)
+        return self.rng.choice(sizes_of(c))
+
+    def huge_bit(self):
+        """A bit of the size in a header that no size of an item has."""
+        return 2**self.rng.randint(self.shape.largest_item.bit_length(), self.bits - 8)
 
     def put_used(self, item, c, size):
         """Gives an item the header of one in use, of any class and for any size."""
-        self.put(item, 128 * size + 4 * c + 3)
+        self.put(item, used_header(c, size))
 
     def put_next(self, item, offset):
         """Gives a free item another next offset."""
-        self.put(item, self.get(item) % 128 + 16 * offset)
+        self.put(item, 16 * offset + self.shape.free_item(self.get(item))[1])
 
     def split(self, position, first, second):
         """Puts two blocks, each a kind and a size, where one was, and lays out all."""
@@ -82,10 +92,10 @@ class Patient:
 
     def link_blocks(self, order):
         """Links the free list through these blocks in this order, both ways."""
-        self.put(FIRST_FREE, order[0] if order else 0)
+        self.put(self.shape.first_free, order[0] if order else 0)
         for before, block, after in zip([0] + order, order, order[1:] + [0]):
-            self.put(block + 8, after)
-            self.put(block + self.state.blocks[block][1] - 16, before)
+            self.put(self.state.next_link(block), after)
+            self.put(self.state.previous_link(block), before)
 
 
 # Fixed words and lengths.
@@ -97,7 +107,7 @@ def first_bytes(p):
 
 @way(False)
 def fixed_word(p):
-    p.spoil(p.rng.choice((8, 16, STORED_END, 40, 304)))
+    p.spoil(p.rng.choice([*p.shape.fixed_words(p.state.end)]))
 
 
 @way(False)
@@ -111,13 +121,13 @@ def another_length(p):
 @way(False)
 def stored_end_and_length(p):
     another_length(p)
-    p.put(STORED_END, len(p.data) // 8 * 8)
+    p.put(p.shape.stored_end, end_of(len(p.data)))
 
 
 @way(True)
 def length_with_the_same_end(p):
     del p.data[p.state.end:]
-    if len(p.data) < LONGEST:
+    if len(p.data) < p.shape.longest:
         p.data += p.rng.randbytes(p.rng.randrange(8))
 
 
@@ -126,7 +136,7 @@ def length_with_the_same_end(p):
 @way(False)
 def one_tag(p):
     block = p.any_block()
-    p.spoil(p.rng.choice((block, block + p.state.blocks[block][1] - 8)))
+    p.spoil(p.rng.choice((block, block + p.state.blocks[block][1] - p.shape.word)))
 
 
 @way(False)
@@ -134,7 +144,7 @@ def one_tag_of_another_kind(p):
     block = p.any_block()
     kind, size = p.state.blocks[block]
     other = p.rng.choice([k for k in range(8) if k != kind])
-    p.put(p.rng.choice((block, block + size - 8)), size + other)
+    p.put(p.rng.choice((block, block + size - p.shape.word)), size + other)
 
 
 @way(None)
@@ -168,7 +178,7 @@ def tags_over_two_blocks(p):
 def last_block_ends_elsewhere(p):
     block = p.state.starts[-1]
     kind, size = p.state.blocks[block]
-    size += p.rng.choice((-24, -16, -8, 8, 16))
+    size += p.rng.choice((*range(8 - p.shape.smallest_free, 0, 8), 8, 16))
     p.put(block, size + kind)
     if block + size <= len(p.data):
         p.put_tags(block, size, kind)
@@ -178,62 +188,73 @@ def last_block_ends_elsewhere(p):
 def wild_size(p):
     block = p.any_block()
     kind, size = p.state.blocks[block]
-    wild = p.rng.choice((0, 8, 16, 24, p.state.end, p.state.end + 8 - block, 2**63, 2**64 - 8, 2**64 - block))
+    too_small = range(0, p.shape.smallest_free, 8)
+    wild = p.rng.choice((*too_small, p.state.end, p.state.end + 8 - block, 2**(p.bits - 1), 2**p.bits - 8, 2**p.bits - block))
     if wild == size:
         return False
     p.put(block, wild + kind)
-    if 16 <= wild <= 24:
+    if wild in too_small and wild >= p.shape.tags:
         p.put_tags(block, wild, kind)
 
 
 @way(False)
 def small_variable_block(p):
-    block = p.any_block(FREE, 272 + 32)
+    least, least_free = p.shape.smallest_variable, p.shape.smallest_free
+    block = p.any_block(FREE, least - 8 + least_free)
     if block is None:
         return False
-    small = p.rng.choice((272, 272, 264, 32, 16, 8 * p.rng.randint(2, 34)))
+    small = p.rng.choice((least - 8, least - 8, least - 16, least_free, p.shape.tags,
+                          8 * p.rng.randint(p.shape.tags // 8, least // 8 - 1)))
     p.split(block, (VARIABLE, small), (FREE, p.state.blocks[block][1] - small))
+
+
+def end_in_a_small_free_block(p, block, small):
+    """The end of a block becomes a free block that is too small; its tags are right, even where a link should stand."""
+    size = p.state.blocks[block][1]
+    p.split(block, (VARIABLE, size - small), (FREE, small))
+    p.put_tags(block + size - small, small, FREE)
 
 
 @way(False)
 def small_free_block(p):
-    block = p.any_block(VARIABLE, 304) or p.any_block(FREE, 304)
+    least = p.shape.smallest_variable + p.shape.smallest_free - 8
+    block = p.any_block(VARIABLE, least) or p.any_block(FREE, least)
     if block is None:
         return False
-    small = p.rng.choice((24, 24, 16))
-    p.split(block, (VARIABLE, p.state.blocks[block][1] - small), (FREE, small))
+    end_in_a_small_free_block(p, block, p.rng.choice((p.shape.smallest_free - 8, p.shape.smallest_free - 8, p.shape.tags)))
 
 
 @way(False)
-def lone_free_block_of_24(p):
-    """The next and the previous link of such a block are the same word, and here both are 0."""
+def lone_small_free_block(p):
+    """Next and previous link are the same word, and here both are 0; or, where words are of 4 bytes, the tags."""
     for block in list(p.state.free):
         size = p.state.remove_block(block)[1]
         p.state.add_block(block, VARIABLE, size)
-    block = p.any_block(VARIABLE, 304)
-    if block is None or any(p.state.blocks[b][1] < 280 for b in p.state.starts):
+    small = p.shape.smallest_free - 8
+    block = p.any_block(VARIABLE, p.shape.smallest_variable + small)
+    if block is None or any(kind == VARIABLE and size < p.shape.smallest_variable for kind, size in p.state.blocks.values()):
         return False
-    p.split(block, (VARIABLE, p.state.blocks[block][1] - 24), (FREE, 24))
+    end_in_a_small_free_block(p, block, small)
 
 
 def cut_a_free_block(p, kind, least):
     """The low part of a free block becomes a block of this kind and at least this size; the rest stays free."""
-    block = p.any_block(FREE, least + 32)
+    block = p.any_block(FREE, least + p.shape.smallest_free)
     if block is None:
         return False
     size = p.state.blocks[block][1]
-    low = 8 * p.rng.randint(least // 8, size // 8 - 4)
+    low = 8 * p.rng.randint(least // 8, (size - p.shape.smallest_free) // 8)
     p.split(block, (kind, low), (FREE, size - low))
 
 
 @way(False)
 def touching_free_blocks(p):
-    return cut_a_free_block(p, FREE, 32)
+    return cut_a_free_block(p, FREE, p.shape.smallest_free)
 
 
 @way(True)
 def variable_block_in_a_free_one(p):
-    return cut_a_free_block(p, VARIABLE, 280)
+    return cut_a_free_block(p, VARIABLE, p.shape.smallest_variable)
 
 
 # Pages.
@@ -246,7 +267,7 @@ def page_of_another_length(p):
     size = p.state.remove_block(page)[1]
     kind, rest = p.state.remove_block(page + size)
     more = p.rng.choice((-16, -8, 8, 16, 24, 32, 40))
-    if rest - more < (32 if kind == FREE else 280):
+    if rest - more < (p.shape.smallest_free if kind == FREE else p.shape.smallest_variable):
         return False
     p.state.add_block(page, PAGE, size + more)
     p.state.add_block(page + size + more, kind, rest - more)
@@ -255,13 +276,12 @@ def page_of_another_length(p):
 
 @way(True)
 def page_in_a_free_block(p):
-    c = p.rng.randrange(CLASSES)
-    bytes_of_items = items_in_page(c) * item_size(c)
-    block = p.any_block(FREE, bytes_of_items + 16 + 32)
+    c = p.rng.randrange(p.shape.classes)
+    block = p.any_block(FREE, p.shape.page_size(c) + p.shape.smallest_free)
     if block is None:
         return False
-    size = bytes_of_items + 16 + p.rng.choice((0, 8, 16, 24))
-    if p.state.blocks[block][1] - size < 32:
+    size = p.shape.page_size(c) + p.rng.choice(p.shape.spare)
+    if p.state.blocks[block][1] - size < p.shape.smallest_free:
         return False
     p.state.page_class[block] = c
     p.state.item_class.update(dict.fromkeys(p.state.items_of_page(block), c))
@@ -271,7 +291,7 @@ def page_in_a_free_block(p):
 
 @way(True)
 def full_page_as_variable_block(p):
-    page = p.any_block(PAGE)
+    page = p.any_block(PAGE, p.shape.smallest_variable)
     if page is None:
         return False
     items = set(p.state.items_of_page(page))
@@ -286,7 +306,7 @@ def full_page_as_variable_block(p):
 
 @way(False)
 def first_free(p):
-    p.spoil(FIRST_FREE)
+    p.spoil(p.shape.first_free)
 
 
 @way(False)
@@ -294,7 +314,7 @@ def one_link(p):
     block = p.any_block(FREE)
     if block is None:
         return False
-    p.spoil(p.rng.choice((block + 8, block + p.state.blocks[block][1] - 16)))
+    p.spoil(p.rng.choice((p.state.next_link(block), p.state.previous_link(block))))
 
 
 @way(False)
@@ -302,10 +322,7 @@ def links_swapped(p):
     block = p.any_block(FREE)
     if block is None or len(p.state.free) < 2:
         return False
-    last = block + p.state.blocks[block][1] - 16
-    before, after = p.get(last), p.get(block + 8)
-    p.put(block + 8, before)
-    p.put(last, after)
+    swap_words(p, p.state.next_link(block), p.state.previous_link(block))
 
 
 @way(False)
@@ -339,7 +356,7 @@ def ring_of_free_blocks(p):
     block = p.any_block(FREE)
     if block is None:
         return False
-    p.put(p.state.free[-1] + 8, block)
+    p.put(p.state.next_link(p.state.free[-1]), block)
 
 
 # Item headers.
@@ -350,7 +367,7 @@ def item_of_another_class(p):
     if page is None:
         return False
     item = p.rng.choice(p.state.items_of_page(page))
-    p.put(item, p.get(item) ^ 4 * p.rng.randint(1, 31))
+    p.put(item, p.get(item) ^ 4 * p.rng.randint(1, 31))  # where there are 16 classes, the highest bit may be a next offset's
 
 
 @way(False)
@@ -368,7 +385,7 @@ def item_right_for_another_class(p):
     item = p.any_used_item()
     if item is None:
         return False
-    other = (p.state.item_class[item] + p.rng.randint(1, 31)) % CLASSES
+    other = p.another_class(p.state.item_class[item])
     p.put_used(item, other, p.size_in(other))
 
 
@@ -386,7 +403,7 @@ def used_item_as_free(p):
     item = p.any_used_item()
     if item is None:
         return False
-    p.put(item, p.rng.choice((p.get(item) - 2, 4 * p.state.item_class[item] + 1)))
+    p.put(item, p.rng.choice((p.get(item) - 2, free_header(p.state.item_class[item], 0))))
 
 
 # Sizes in the headers of items in use.
@@ -407,7 +424,7 @@ def size_not_known(p):
 
 @way(True)
 def size_at_an_end_of_its_class(p):
-    return resized_item(p, lambda c: 8 * c + p.rng.choice((1, 8)))
+    return resized_item(p, lambda c: p.rng.choice((sizes_of(c)[0], sizes_of(c)[-1])))
 
 
 @way(True)
@@ -417,18 +434,21 @@ def size_of_its_class(p):
 
 @way(False)
 def size_just_outside_its_class(p):
-    return resized_item(p, lambda c: 8 * c + p.rng.choice((0, 9)) or 9)  # 0 would be a size that is not known
+    def outside(c):
+        below, above = sizes_of(c)[0] - 1, sizes_of(c)[-1] + 1
+        return p.rng.choice((below, above)) or above  # 0 would be a size that is not known
+    return resized_item(p, outside)
 
 
 @way(False)
 def size_of_another_class(p):
-    return resized_item(p, lambda c: p.size_in((c + p.rng.randint(1, 31)) % CLASSES))
+    return resized_item(p, lambda c: p.size_in(p.another_class(c)))
 
 
 @way(False)
 def huge_size(p):
     """A size of its class, or none, and a bit too many; or all bits."""
-    return resized_item(p, lambda c: p.rng.choice((p.size_in(c) + 2**p.rng.randint(9, 56), 2**p.rng.randint(9, 56), 2**57 - 1)))
+    return resized_item(p, lambda c: p.rng.choice((p.size_in(c) + p.huge_bit(), p.huge_bit(), 2**(p.bits - 7) - 1)))
 
 
 @way(False)
@@ -439,7 +459,7 @@ def two_wrong_sizes(p):
     if not pages:
         return False
     one, other = p.rng.sample(p.rng.choice(pages), 2)
-    c, wrong = p.state.item_class[one], 2**p.rng.randint(9, 56)
+    c, wrong = p.state.item_class[one], p.huge_bit()
     p.put_used(one, c, p.size_in(c) + wrong)
     p.put_used(other, c, p.size_in(c) + p.rng.choice((-wrong, wrong)))
 
@@ -457,8 +477,7 @@ def older_heap(p):
 
 @way(False)
 def head_elsewhere(p):
-    c = p.rng.randrange(CLASSES)
-    p.spoil(INDEX_PAGE + 8 * c)
+    p.spoil(p.shape.head(p.rng.randrange(p.shape.classes)))
 
 
 @way(False)
@@ -466,8 +485,8 @@ def head_off_by_bytes(p):
     c = p.any_class()
     if c is None:
         return False
-    head = INDEX_PAGE + 8 * c
-    p.put(head, p.get(head) + p.rng.choice((1, 4, 7, 2**63, 2**60, 2**32)))
+    head = p.shape.head(c)
+    p.put(head, p.get(head) + p.rng.choice((1, 4, 7, 2**(p.bits - 1), 2**(p.bits - 4), 2**(p.bits // 2))))
 
 
 @way(False)
@@ -475,11 +494,7 @@ def heads_swapped(p):
     c = p.any_class()
     if c is None:
         return False
-    other = (c + p.rng.randint(1, 31)) % CLASSES
-    p.state.lists[c], p.state.lists[other] = p.state.lists[other], p.state.lists[c]
-    for d in (c, other):
-        items = p.state.lists[d]
-        p.put(INDEX_PAGE + 8 * d, items[-1] - INDEX_PAGE if items else 0)
+    swap_words(p, p.shape.head(c), p.shape.head(p.another_class(c)))
 
 
 @way(False)
@@ -488,9 +503,9 @@ def next_elsewhere(p):
     if c is None:
         return False
     item = p.rng.choice(p.state.lists[c])
-    old = p.get(item) // 128 * 8
-    offsets = (0, 8, old + 8, p.state.end - 56, p.state.end - 48, p.state.end, 2**60 - 8, 2**60 - 48, 2**59,
-               2**32 + old)
+    old, word, end, beyond = p.shape.free_item(p.get(item))[0], p.shape.word, p.state.end - p.shape.index_page, 2**(p.bits - 4)
+    offsets = (0, word, old + word, end - word, end, p.state.end, beyond - word, beyond - p.shape.index_page, beyond // 2,
+               2**(p.bits // 2) + old)
     p.put_next(item, p.rng.choice([o for o in offsets if o != old]))
 
 
@@ -500,7 +515,7 @@ def ring_of_items(p):
     if c is None:
         return False
     items = p.state.lists[c]
-    p.put_next(items[0], p.rng.choice(items) - INDEX_PAGE)
+    p.put_next(items[0], p.rng.choice(items) - p.shape.index_page)
 
 
 @way(False)
@@ -524,11 +539,11 @@ def item_left_out(p):
 def lists_joined(p):
     """The end of one list leads into another: the second class's items are seen twice."""
     c = p.any_class()
-    others = [d for d in range(CLASSES) if p.state.lists[d] and d != c]
+    others = [d for d in range(p.shape.classes) if p.state.lists[d] and d != c]
     if not others:
         return False
     other = p.rng.choice(others)
-    p.put_next(p.state.lists[c][0], p.rng.choice(p.state.lists[other]) - INDEX_PAGE)
+    p.put_next(p.state.lists[c][0], p.rng.choice(p.state.lists[other]) - p.shape.index_page)
 
 
 @way(False)
@@ -536,8 +551,7 @@ def list_moved_behind_another(p):
     """As above, but the second class's own head is 0, so each item is seen once."""
     if lists_joined(p) is False:
         return False
-    c = p.any_class()
-    p.put(INDEX_PAGE + 8 * c, 0)
+    p.put(p.shape.head(p.any_class()), 0)
 
 
 @way(False)
@@ -545,7 +559,7 @@ def used_item_on_a_list(p):
     c, item = p.any_class(), p.any_used_item()
     if c is None or item is None:
         return False
-    p.put_next(p.state.lists[c][0], item - INDEX_PAGE)
+    p.put_next(p.state.lists[c][0], item - p.shape.index_page)
 
 
 @way(False)
@@ -554,10 +568,10 @@ def forged_item_in_a_payload(p):
     c, block = p.any_class(), p.any_block(VARIABLE)
     if c is None or block is None:
         return False
-    item = block + 8 * p.rng.randint(1, 4)
-    head = INDEX_PAGE + 8 * c
-    p.put(item, 16 * p.get(head) + 4 * c + 1)
-    p.put(head, item - INDEX_PAGE)
+    item = block + p.shape.word * p.rng.randint(1, 4)
+    head = p.shape.head(c)
+    p.put(item, free_header(c, p.get(head)))
+    p.put(head, item - p.shape.index_page)
 
 
 @way(False)
@@ -568,9 +582,9 @@ def item_with_the_class_of_its_list(p):
         return False
     items = p.state.lists[c]
     item = items.pop(p.rng.randrange(len(items)))
-    if item in [page + 8 for page in p.state.page_class]:
+    if item in [page + p.shape.word for page in p.state.page_class]:
         return False
-    p.state.lists[(c + p.rng.randint(1, 31)) % CLASSES].append(item)
+    p.state.lists[p.another_class(c)].append(item)
     p.heap.lay_out_whole()
 
 
@@ -586,10 +600,10 @@ def head_inside_a_header(p):
     p.state.item_class.pop(item)
     p.state.lists[c] = [item]
     p.heap.lay_out_whole()
-    shift = p.rng.randint(1, 7)
-    p.put(item, (4 * c + 1) * (1 + 256**shift))
-    p.put(item + 8, 0)
-    p.put(INDEX_PAGE + 8 * c, item - INDEX_PAGE + shift)
+    shift = p.rng.randint(1, p.shape.word - 1)
+    p.put(item, free_header(c, 0) * (1 + 256**shift))
+    p.put(item + p.shape.word, 0)
+    p.put(p.shape.head(c), item - p.shape.index_page + shift)
 
 
 @way(True)
@@ -618,50 +632,114 @@ def bytes_changed(p):
 
 def named_words(p):
     """The positions of some words that mean something."""
-    state = p.state
+    state, word = p.state, p.shape.word
     block = p.any_block()
     size = state.blocks[block][1]
-    found = [8, 16, 24, 32, 40, 304, INDEX_PAGE + 8 * p.rng.randrange(CLASSES), block, block + size - 8, block + 8,
-             block + size - 16]
+    found = [*sorted([p.shape.first_free, *p.shape.fixed_words(state.end)]), p.shape.head(p.rng.randrange(p.shape.classes)),
+             block, block + size - word, block + word, block + size - 2 * word]
     if state.page_class:
         found += p.rng.choices(state.items_of_page(p.rng.choice(list(state.page_class))), k=4)
     return found
 
 
+def swap_words(p, a, b):
+    one, other = p.get(a), p.get(b)
+    p.put(a, other)
+    p.put(b, one)
+
+
 @way(None)
 def named_word_changed(p):
     at = p.rng.choice(named_words(p))
-    p.rng.choice((p.spoil, lambda a: p.put(a, p.get(a) ^ 1 << p.rng.randrange(64))))(at)
+    p.rng.choice((p.spoil, lambda a: p.put(a, p.get(a) ^ 1 << p.rng.randrange(p.bits))))(at)
 
 
 @way(None)
 def named_words_swapped(p):
-    a, b = p.rng.choice(named_words(p)), p.rng.choice(named_words(p))
-    one, other = p.get(a), p.get(b)
-    p.put(a, other)
-    p.put(b, one)
+    swap_words(p, p.rng.choice(named_words(p)), p.rng.choice(named_words(p)))
 
 
 @way(True)
 def bytes_that_may_be_anything(p):
     """Every payload, every free interior, all spare bytes of pages and all behind the end."""
     kept = bytes(p.data)
-    state, length = p.state, len(p.data)
-    p.data[DATA_AREA:] = p.rng.randbytes(length - DATA_AREA)
+    state, word, start = p.state, p.shape.word, p.shape.data_area
+    p.data[start:] = p.rng.randbytes(len(p.data) - start)
     for position, (kind, size) in state.blocks.items():
-        words = [position, position + size - 8]
+        words = [position, position + size - word]
         if kind == FREE:
-            words += [position + 8, position + size - 16]
+            words += [state.next_link(position), state.previous_link(position)]
         elif kind == PAGE:
             words += state.items_of_page(position)
         for at in words:
-            p.data[at:at + 8] = kept[at:at + 8]
+            p.data[at:at + word] = kept[at:at + word]
 
 
-def damaged(rng, data):
+# Where it matters that words have 4 bytes: what would be right, or not there, if they had 8.
+
+@way(False, [HAND])
+def first_bytes_of_the_console(p):
+    p.data[:8] = WIDE.magic
+
+
+@way(False, [HAND])
+def used_item_of_a_class_of_the_console(p):
+    """The class of an item in use has room for 32, and here there are 16."""
+    item = p.any_used_item()
+    if item is None:
+        return False
+    p.put(item, p.get(item) + 4 * p.shape.classes)
+
+
+@way(False, [HAND])
+def next_inside_a_word(p):
+    c = p.any_class()
+    if c is None:
+        return False
+    item = p.rng.choice(p.state.lists[c])
+    p.put_next(item, p.shape.free_item(p.get(item))[0] + p.rng.choice((1, 2, 2, 3)))
+
+
+@way(False, [HAND])
+def next_in_multiples_of_8(p):
+    """Of an item that stands 4 above a multiple of 8 from the index page, the lower multiple is the next offset."""
+    fits = [item for items in p.state.lists for item in items if p.shape.free_item(p.get(item))[0] % 8]
+    if not fits:
+        return False
+    item = p.rng.choice(fits)
+    p.put_next(item, p.shape.free_item(p.get(item))[0] - 4)
+
+
+def end_as_free_block_of_8(p, block):
+    """The last 8 bytes of a block are nothing but the two tags of a free one, which is on no list."""
+    if block is None:
+        return False
+    kind, size = p.state.blocks[block]
+    p.put_tags(block, size - 8, kind)
+    p.put_tags(block + size - 8, 8, FREE)
+
+
+@way(False, [HAND])
+def rest_of_8(p):
+    return end_as_free_block_of_8(p, p.any_block(VARIABLE, p.shape.smallest_variable + 8))
+
+
+@way(False, [HAND])
+def spare_bytes_as_a_free_block(p):
+    fits = [page for page, c in p.state.page_class.items() if p.state.blocks[page][1] > p.shape.page_size(c)]
+    return end_as_free_block_of_8(p, p.rng.choice(fits) if fits else None)
+
+
+@way(None, [HAND])
+def neighbouring_words_swapped(p):
+    at = p.rng.choice(named_words(p))
+    swap_words(p, at, at + p.shape.word if at + 2 * p.shape.word <= len(p.data) else at - p.shape.word)
+
+
+def damaged(rng, shape, data):
     """The name of a way, the bytes after it, and what its verdict must be (None: as it happens)."""
     while True:
-        function, stays_sound = rng.choice(WAYS)
-        patient = Patient(rng, data)
+        function, stays_sound = rng.choice(WAYS[shape])
+        patient = Patient(rng, shape, data)
         if function(patient) is not False:
             return function.__name__, bytes(patient.data), stays_sound

@@ -1,5 +1,6 @@
 /* Runs a stream of commands from standard input against the library's heap calls and writes, for each
-   call, its answer and every changed range of bytes, also outside the lent buffer.
+   call, its answer and every changed range of bytes, also outside the lent buffer. With HAND_UNIT the
+   calls are those of the hand unit.
 
    Commands, all numbers 8-byte little-endian words:
      S shift length BYTES   the lent buffer is now these bytes, at an address that is "shift" past a multiple of 8
@@ -12,17 +13,27 @@
      F address              free
      W                      sweep
    Answer to each call: its own answer, and for each range its offset from the buffer's start (as a signed
-   number), its length and its new bytes; a range of length 0 comes last. Outside the buffer all bytes are
-   FILL until a call changes them.
-   At the end: of how many calls the stack was measured, the most bytes of it that one used, and JAGWIBODU_STACK. */
+   number), its length and its new bytes, which may have unchanged ones among them; a range of length 0
+   comes last. Outside the buffer all bytes are FILL until a call changes them.
+   At the end: of how many calls the stack was measured, the most bytes of it that one used, and the header's STACK. */
+#ifdef HAND_UNIT
+#include "../include/jagwibodu_hand.h"
+#define CALL(name) jagwibodu_hand_##name
+#define STACK JAGWIBODU_HAND_STACK
+#define LONG 4096 /* bytes of a heap that is long for this unit */
+#else
 #include "../include/jagwibodu.h"
+#define CALL(name) jagwibodu_##name
+#define STACK JAGWIBODU_STACK
+#define LONG 65536
+#endif
 
 #include <stdint.h>
 #include <stdio.h>
 #include <stdlib.h>
 #include <string.h>
 
-#define LONGEST 1048640
+#define LONGEST 1048640 /* more than any heap may have */
 #define GUARD 64
 #define FILL 0xa5
 #define STRETCH 4096 /* so many bytes are compared at once where nothing changed */
@@ -185,8 +196,6 @@ static __attribute__((noinline)) void try_measure(void)
 }
 
 /* Calls on long heaps need most stack, so all of them are measured, and of the others every eighth. */
-#define LONG 65536
-
 static int is_measured(void)
 {
     static uint64_t calls;
@@ -210,28 +219,28 @@ static __attribute__((noinline)) uint64_t called(int command, uint64_t first, ui
         paint();
     switch (command) {
     case 'I':
-        result = jagwibodu_initialise(heap, length);
+        result = CALL(initialise)(heap, length);
         break;
     case 'C':
-        result = jagwibodu_check(heap, length);
+        result = CALL(check)(heap, length);
         break;
     case 'A':
-        result = jagwibodu_allocate(heap, length, first);
+        result = CALL(allocate)(heap, length, first);
         break;
     case 'R':
-        result = jagwibodu_resize(heap, length, first, second);
+        result = CALL(resize)(heap, length, first, second);
         break;
     case 'H':
-        result = jagwibodu_resize_in_place(heap, length, first, second);
+        result = CALL(resize_in_place)(heap, length, first, second);
         break;
     case 'M':
-        result = jagwibodu_move(heap, length, first, second);
+        result = CALL(move)(heap, length, first, second);
         break;
     case 'F':
-        result = jagwibodu_free(heap, length, first);
+        result = CALL(free)(heap, length, first);
         break;
     case 'W':
-        result = jagwibodu_sweep(heap, length);
+        result = CALL(sweep)(heap, length);
         break;
     default:
         fail("no such command");
@@ -263,6 +272,6 @@ int main(void)
     }
     write_word(measured);
     write_word(deepest);
-    write_word(JAGWIBODU_STACK);
+    write_word(STACK);
     return 0;
 }

@@ -1,15 +1,14 @@
 """Heaps to be read by the programs `show` and `ask`: sound, damaged, and bytes that are no heap's; and how many there were."""
 
+import itertools
 import sys
 from collections import Counter
 
 from damage import Patient, bytes_that_may_be_anything, damaged
-from report import sample
-from runs import sound_heap
-from second import LONGEST, SHORTEST, Heap
+from runs import HABITS, other_magic, sound_heap
+from second import HAND, SHAPES, WIDE, Heap
 
-DAMAGED_FROM_ONE = 4
-LONG = 30000  # longer heaps are few: each of them costs as much as many short ones
+DAMAGED_FROM_ONE = 3
 
 
 class Tally(Counter):
@@ -22,58 +21,73 @@ class Tally(Counter):
                 sys.exit(f"compare: met only {self[case]} of '{case}', and at least {count} are wanted")
 
 
-def any_length(rng):
-    low, high = rng.choices(((SHORTEST, 4600), (4600, LONG), (150000, LONGEST)), (20, 78, 2))[0]
-    return rng.randint(low, high)
+def is_long(shape, data):
+    """Such heaps are few: each of them costs as much as many short ones."""
+    return len(data) > HABITS[shape].usual[1]
 
 
-def changed(rng, data):
+def any_length(rng, shape):
+    habits = HABITS[shape]
+    return rng.randint(*rng.choices((habits.short, habits.usual, habits.long), (20, 78, 2))[0])
+
+
+def changed(rng, shape, data):
     """Other bytes wherever a sound heap may have any: payloads, free stretches, spare bytes."""
-    patient = Patient(rng, data)
+    patient = Patient(rng, shape, data)
     bytes_that_may_be_anything(patient)
     return bytes(patient.data)
 
 
-def some_from(rng, base):
-    """A sound heap, the same with other payloads, and damaged ones, each with a word for what it is."""
+def some_from(rng, shape, base):
+    """A sound heap, the same with other payloads, as one of the other shape, and damaged ones, each with a word for what it is."""
     yield "sound", base
-    yield "payloads changed", changed(rng, base)
-    for _ in range(1 if len(base) > LONG else DAMAGED_FROM_ONE):
-        yield "damaged", damaged(rng, base)[1]
+    yield "payloads changed", changed(rng, shape, base)
+    yield "of the other shape", other_magic(shape) + base[8:]
+    for _ in range(1 if is_long(shape, base) else DAMAGED_FROM_ONE):
+        yield "damaged", damaged(rng, shape, base)[1]
 
 
-def no_heaps(rng):
-    lengths = (0, 1, 8, SHORTEST - 1, SHORTEST, 4096, LONGEST, LONGEST + 1)
-    return [("no heap", fill(length)) for length in lengths for fill in (bytes, rng.randbytes)]
+def no_heaps(rng, shape):
+    """Zeros and garbage; behind the first bytes where these tell that it is the hand unit's."""
+    first = HAND.magic if shape == HAND else b""
+    lengths = sorted({0, 1, 8, shape.shortest - 1, shape.shortest, 4096, shape.longest, shape.longest + 1, WIDE.longest + 1})
+    return [("no heap", (first + fill(length))[:length]) for length in lengths for fill in (bytes, rng.randbytes)]
 
 
 def some_heaps(rng, count):
     """At least so many heaps: what each is, its bytes, and the second program's state of the sound heap that it is made from."""
-    state = sample().state
     made = 0
-    for what, data in no_heaps(rng):
-        made += 1
-        yield what, data, state
-    while made < count:
-        base = sound_heap(rng, any_length(rng))
-        state = Heap(bytearray(base)).state
-        for what, data in some_from(rng, base):
+    for shape in SHAPES.values():
+        state = Heap(bytearray(sound_heap(rng, shape, HABITS[shape].usual[1])), shape).state
+        for what, data in no_heaps(rng, shape):
+            made += 1
+            yield what, data, state
+    for shape in itertools.cycle(SHAPES.values()):
+        if made >= count:
+            return
+        base = sound_heap(rng, shape, any_length(rng, shape))
+        state = Heap(bytearray(base), shape).state
+        for what, data in some_from(rng, shape, base):
             made += 1
             yield what, data, state
 
 
 def note(tally, what, heap):
-    """Counts a heap by what it is and by what the check says of it."""
-    tally["heaps"] += 1
-    tally[what] += 1
-    tally[f"refused with {heap.verdict}" if heap.verdict else "granted"] += 1
-    tally["refused"] += heap.verdict != 0
-    tally["damaged and still sound"] += what == "damaged" and heap.verdict == 0
-    tally["items with and without a size"] += heap.verdict == 0 and 0 < len(heap.state.asked) < len(heap.state.item_class)
+    """Counts a heap by what it is and by what the check says of it, and each with its shape."""
+    granted = heap.verdict == 0
+    cases = {"heaps": True, what: True, "granted": granted, "refused": not granted, f"refused with {heap.verdict}": not granted,
+             "damaged and still sound": granted and what == "damaged",
+             "items with and without a size": granted and 0 < len(heap.state.asked) < len(heap.state.item_class)}
+    for case, met in cases.items():
+        tally[case] += met
+        tally[f"{heap.shape.name}: {case}"] += met
 
 
 def enough_heaps(count):
-    """What `demand` asks of so many heaps."""
-    return {"heaps": count, "sound": count // 8, "payloads changed": count // 8, "granted": count // 3,
-            "refused": count // 3, "refused with 1": 10, "refused with 2": 6, "refused with 3": count // 3,
-            "damaged and still sound": count // 20, "items with and without a size": count // 100}
+    """What `demand` asks of so many heaps, half of them of either shape."""
+    half = count // 2
+    least = {"sound": half // 8, "payloads changed": half // 8, "of the other shape": half // 8, "granted": half // 3,
+             "refused": half // 3, "refused with 1": 8, "refused with 3": half // 3, "damaged and still sound": half // 20,
+             "items with and without a size": half // 100}
+    return ({"heaps": count, "wide: refused with 2": 6}  # none of the hand unit's: its first bytes tell that it is one
+            | {f"{shape}: {case}": number for shape in SHAPES for case, number in least.items()})

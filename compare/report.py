@@ -1,7 +1,7 @@
 #!/usr/bin/env python3
 """What the program `show` must print of a heap, by the second program.
 
-  report.py HEAP                  prints the report on the heap in a file
+  report.py HEAP                  prints the report on the heap in a file, the hand unit's where the first bytes are
   report.py --make HEAP REPORT    writes a heap with every kind of block, and the report on it
 """
 
@@ -9,15 +9,16 @@ import bisect
 import sys
 
 sys.dont_write_bytecode = True
-from second import DATA_AREA, FREE, ITEM_IN_USE, LONGEST, PAGE, VARIABLE, Heap, item_size
+from second import FREE, HAND, PAGE, VARIABLE, WIDE, Heap, item_capacity, shape_of, used_header
 
 NAMES = {1: "bad length", 2: "not opened", 3: "not sound"}
 STATISTICS = ("free bytes", "free blocks", "largest free block", "variable blocks", "pages", "live items")
 CHARACTERS, COLUMNS = 1024, 64
+LONGEST_INPUT = WIDE.longest  # so much the program reads, and no heap is longer
 
 
 def class_lines(table):
-    return [f"{c} {item_size(c) - 8} {pages} {live} {free}" for c, (pages, live, free) in enumerate(table) if pages]
+    return [f"{c} {item_capacity(c)} {pages} {live} {free}" for c, (pages, live, free) in enumerate(table) if pages]
 
 
 def block_line(state, answer):
@@ -32,7 +33,7 @@ def block_line(state, answer):
 
 
 def block_lines(heap):
-    lines, position = [], DATA_AREA
+    lines, position = [], heap.shape.data_area
     while position in heap.state.blocks:
         _, answer, position = heap.step(position)
         lines.append(block_line(heap.state, answer))
@@ -48,22 +49,28 @@ def mark(state, block):
 
 
 def map_lines(state):
-    part = (state.end - DATA_AREA) // CHARACTERS + 1
+    start = state.shape.data_area
+    part = (state.end - start) // CHARACTERS + 1
     marks = [mark(state, block) for block in state.starts]
-    shown = "".join(marks[bisect.bisect_right(state.starts, position) - 1] for position in range(DATA_AREA, state.end, part))
+    shown = "".join(marks[bisect.bisect_right(state.starts, position) - 1] for position in range(start, state.end, part))
     head = f"map: each character is {part} bytes, and shows the block at the first of them: . free, # variable, 0 to 9 page by tenths of its items in use (9: nine or ten)"
     return [head] + [shown[i:i + COLUMNS] for i in range(0, len(shown), COLUMNS)]
+
+
+def told_heap(data):
+    """The second program's heap of these bytes, in the shape that they tell."""
+    return Heap(bytearray(data), shape_of(data))
 
 
 def report(heap):
     """The lines of the report on a heap of the second program."""
     refusal, six, table = heap.statistics()
+    said = [f"check: {refusal} {NAMES[refusal]}" if refusal else "check: sound"] + ["hand unit"] * (heap.shape == HAND)
     if refusal:
-        lines = [f"check: {refusal} {NAMES[refusal]}"]
-        return lines + [f"the input is too long: more than {LONGEST} bytes"] * (len(heap.data) > LONGEST)
+        return said + [f"the input is too long: more than {LONGEST_INPUT} bytes"] * (len(heap.data) > LONGEST_INPUT)
     state = heap.state
     payloads = [f"{a} {state.capacity(a)} {state.shown(a)}" for a in sorted(state.live_addresses())]
-    return (["check: sound", "", "statistics"] + [f"{name} {n}" for name, n in zip(STATISTICS, six)]
+    return (said + ["", "statistics"] + [f"{name} {n}" for name, n in zip(STATISTICS, six)]
             + ["", "classes: class, item size, pages, live items, free items"] + class_lines(table)
             + ["", "blocks: position, size, what it is"] + block_lines(heap)
             + ["", "live payloads: address, capacity, shown"] + payloads
@@ -78,12 +85,12 @@ def granted(answer):
 
 def forget(heap, address):
     """Makes the item at an address one of an older heap, whose size is not known."""
-    item = address - 8
-    granted(heap.put(item, 4 * heap.state.item_class[item] + ITEM_IN_USE))
+    item = address - heap.shape.word
+    granted(heap.put(item, used_header(heap.state.item_class[item], 0)))
 
 
 def sample():
-    """Free and variable blocks, and pages that are full, half full, nearly empty and empty; its length is no multiple of 8.
+    """The console's. Free and variable blocks, and pages that are full, half full, nearly empty and empty; its length is no multiple of 8.
     The items are for sizes of their class in turn, from the greatest down; of one the size is not known."""
     heap = Heap(bytearray(28001))
     granted(heap.initialise())
@@ -113,7 +120,7 @@ def main(words):
             text.write("\n".join(report(heap)) + "\n")
     else:
         with open(words[0], "rb") as file:
-            print("\n".join(report(Heap(bytearray(file.read())))))
+            print("\n".join(report(told_heap(file.read()))))
 
 
 if __name__ == "__main__":

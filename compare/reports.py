@@ -13,13 +13,13 @@ from concurrent.futures import ThreadPoolExecutor
 
 sys.dont_write_bytecode = True
 from heaps import Tally, enough_heaps, note, some_heaps
-from report import report
-from second import LONGEST, Heap
+from report import LONGEST_INPUT, report, told_heap
+from second import HAND, SHAPES, Heap
 
 
-def filled(size, keep):
+def filled(shape, size, keep):
     """The longest heap, full of records of one size, of which every second one may be freed again."""
-    heap, live = Heap(bytearray(LONGEST)), []
+    heap, live = Heap(bytearray(shape.longest), shape), []
     heap.initialise()
     while True:
         refusal, address = heap.allocate(size)
@@ -33,9 +33,11 @@ def filled(size, keep):
 
 def cases(rng, count):
     """What each case is, and its bytes."""
-    yield "longer than the program reads", bytes(2 * LONGEST)
-    yield "full of the smallest items", filled(1, True)
-    yield "full of blocks, every second one free", filled(257, False)
+    for first in (b"", HAND.magic):
+        yield "longer than the program reads", first + bytes(2 * LONGEST_INPUT)
+    for shape in SHAPES.values():
+        yield "full of the smallest items", filled(shape, 1, True)
+        yield "full of blocks, every second one free", filled(shape, shape.largest_item + 1, False)
     for what, data, _ in some_heaps(rng, count):
         yield what, data
 
@@ -44,7 +46,7 @@ def compare(command, case):
     """Runs the program on a case: what the case is, the second program's heap, and the bytes where the two reports differ."""
     what, data = case
     told = subprocess.run(command, input=data, stdout=subprocess.PIPE, check=True).stdout.decode()
-    heap = Heap(bytearray(data))
+    heap = told_heap(data)
     return what, heap, None if told == "\n".join(report(heap)) + "\n" else data
 
 
@@ -60,7 +62,8 @@ def main(count, seed, command):
                 sys.exit("show: the report on target/differs.heap differs")
             note(tally, what, heap)
     tally.demand(enough_heaps(count))
-    print(f"show: the reports on {tally['heaps']} heaps, {tally['refused']} of them refused, are the second program's, "
+    print(f"show: the reports on {tally['heaps']} heaps, {tally['hand: heaps']} of them the hand unit's and {tally['refused']} of "
+          f"them refused, are the second program's, "
           f"{time.monotonic() - began:.0f} s")
 
 

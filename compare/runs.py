@@ -4,29 +4,85 @@ import struct
 from collections import Counter
 from typing import NamedTuple
 
-from second import (CLASSES, DATA_AREA, FREE, LARGEST_ITEM, LONGEST, MAGIC, NO_ROOM, PAGE, SHORTEST, VARIABLE, WORD,
-                    Heap, State, class_of, end_of, item_size, items_in_page)
+from second import (BAD_LENGTH, FREE, GRANTED, HAND, ITEM_FREE, ITEM_IN_USE, NO_ROOM, PAGE, SHAPES, VARIABLE, WIDE, Heap, State,
+                    class_of, end_of, free_header, sizes_of, used_header)
 
+NUMBER = struct.Struct("<Q")  # in commands; the heap's words are the shape's
 CALLS = {"initialise": b"I", "check": b"C", "allocate": b"A", "resize": b"R", "resize_in_place": b"H", "move": b"M",
          "free": b"F", "sweep": b"W"}
 RESIZES = ("resize", "resize_in_place", "move")  # the forms that a resize has
-BAD_SIZES = (0, 1048577, 2**32, 2**32 + 16, 2**63, 2**64 - 24, 2**64 - 8, 2**64 - 1)
-EDGE_SIZES = (1, 7, 8, 9, 16, 17, 247, 248, 249, 255, 256, 257, 258, 263, 264, 265, 272, 273, 1048576)
 CALLS_OF_A_PAIR = 250
-BAD_LENGTHS = (0, 1, 8, 47, 312, 343, 1048577, 1048584, 1048600)
+
+
+def near_overflow(bits):
+    return 2**(bits - 1), 2**bits - 24, 2**bits - 8, 2**bits - 1
+
+
+def bad_sizes(shape):
+    """None, too much, and what may become little in the numbers of a call or in the words of the heap."""
+    sizes = (0, shape.largest_size + 1, 2**32, 2**32 + 16, *near_overflow(64), *near_overflow(8 * shape.word))
+    return tuple(dict.fromkeys(sizes))
+
+
+def edge_sizes(shape):
+    item = shape.largest_item
+    return (1, 7, 8, 9, 16, 17, item - 9, item - 8, item - 7, item - 1, item, item + 1, item + 2, item + 7, item + 8, item + 9,
+            item + 16, item + 17, shape.largest_size)
+
+
+def bad_lengths(shape):
+    """Too short and too long, and what is not too long for another shape."""
+    others = [other.longest for other in SHAPES.values() if other.longest > shape.longest]
+    return (0, 1, 8, shape.index_page - 1, shape.data_area, shape.shortest - 1,
+            shape.longest + 1, shape.longest + 8, shape.longest + 24, *others)
+
+
+class Habits(NamedTuple):
+    """How long the heaps of random runs are, and the blocks in them: what is little for one shape is much for the other.
+    Lengths are ranges, from and to."""
+    tiny: tuple  # no page has room, or few
+    first_page: tuple  # a page of some classes has room
+    played: tuple  # other ranges for heaps that many calls are played on
+    short: tuple  # heaps that are damaged or read are short, usual, which most of them are, or long
+    usual: tuple
+    long: tuple
+    swept: tuple  # heaps that are swept above all
+    paired: tuple  # heaps whose runs are run on a longer one too
+    longer: int  # at most by so much
+    block: int  # most blocks are for sizes up to this
+    invented_block: int  # in a heap that no calls made, blocks have up to so many bytes
+
+
+HABITS = {
+    WIDE: Habits(tiny=(WIDE.shortest, 700), first_page=(4430, 4570),
+                 played=((5000, 20000), (20000, 131072), (131072, WIDE.longest)),
+                 short=(WIDE.shortest, 4600), usual=(4600, 30000), long=(150000, WIDE.longest),
+                 swept=(5000, 60000), paired=(4600, 40000), longer=30000, block=2000, invented_block=2400),
+    HAND: Habits(tiny=(HAND.shortest, 200), first_page=(120, 380),
+                 played=((200, 1500), (1500, 10000), (10000, HAND.longest)),
+                 short=(HAND.shortest, 400), usual=(400, 4000), long=(15000, HAND.longest),
+                 swept=(400, 6000), paired=(400, 4000), longer=4000, block=600, invented_block=800),
+}
 
 
 class Record(NamedTuple):
     """A live record."""
+    classes: int  # of its heap's shape
     capacity: int
     asked: int  # for how many bytes an item is, 0 where that is not known; of a block 0
 
     def sort(self):
-        """Its class; for blocks what comes after the last."""
-        return min(class_of(self.capacity), CLASSES)
+        return self.sort_of(self.capacity)
+
+    def sort_of(self, size):
+        """The class of a size; for blocks what comes after the last."""
+        return min(class_of(size), self.classes)
+
+    def is_block(self):
+        return self.sort() == self.classes
 
     def what(self):
-        if self.sort() == CLASSES:
+        if self.is_block():
             return "a block"
         return "an item" if self.asked else "an older item"
 
@@ -41,7 +97,7 @@ def what_came(refusal, size, old, new, moved):
         return what_stayed(size, old, new)
     if old.sort() != new.sort():
         return "to another class or kind"
-    return "within its class" if new.sort() < CLASSES else "from block to block"
+    return "from block to block" if new.is_block() else "within its class"
 
 
 def what_stayed(size, old, new):
@@ -50,7 +106,7 @@ def what_stayed(size, old, new):
         return "shrunk or grown"
     if old.asked != new.asked:
         return f"{old.what()} has another size"
-    return f"{old.what()} is left as it was" if old.sort() == min(class_of(size), CLASSES) else f"{old.what()} is kept"
+    return f"{old.what()} is left as it was" if old.sort() == old.sort_of(size) else f"{old.what()} is kept"
 
 
 def where_given_back(state):
@@ -68,7 +124,7 @@ def where_given_back(state):
 
 def how_linked_anew(state, old_lists):
     """What a sweep that left this heap made of the lists that were there before, of the pages that stay."""
-    changed = [c for c in range(CLASSES) if state.lists[c] != old_lists[c]]
+    changed = [c for c in range(state.shape.classes) if state.lists[c] != old_lists[c]]
     if len(changed) > 1:
         yield "lists of several classes change"
     for c in changed:
@@ -97,11 +153,12 @@ class Run:
     "met" counts what came of each form of resize, what was freed, and what sweeps met.
     """
 
-    def __init__(self, label, start, shift, origin):
+    def __init__(self, shape, label, start, shift, origin):
+        self.shape = shape
         self.label = label
         self.origin = origin  # what the bytes at the start are, in a word
         self.start = bytes(start)
-        self.heap = Heap(bytearray(start))
+        self.heap = Heap(bytearray(start), shape)
         self.steps = []
         self.calls = 0
         self.met = Counter()
@@ -111,7 +168,7 @@ class Run:
         """Lets the second program answer, and the library be asked."""
         refusal, address = getattr(self.heap, name)(*arguments)
         writes, self.heap.writes = self.heap.writes, []
-        self.commands += CALLS[name] + b"".join(map(WORD.pack, arguments))
+        self.commands += CALLS[name] + b"".join(map(NUMBER.pack, arguments))
         self.steps.append(Step(name, arguments, refusal << 32 | address, writes))
         self.calls += 1
         return refusal, address
@@ -121,14 +178,14 @@ class Run:
         if name != "put":
             return self.call(name, *arguments)
         position, value = arguments
-        self.poke(position, WORD.pack(value))
+        self.poke_word(position, value)
         return self.heap.put(position, value)
 
     def record(self, address):
         """The record at an address; none where there is none, or no heap."""
         state = self.heap.state
         capacity = state.capacity(address) if state else None
-        return capacity and Record(capacity, state.asked.get(address - 8, 0))
+        return capacity and Record(self.shape.classes, capacity, state.asked.get(address - self.shape.word, 0))
 
     def resize(self, form, address, size):
         """Calls one of the forms of resize and counts what came of it."""
@@ -178,7 +235,7 @@ class Run:
         """Sets the headers of these items in use back to those of an older heap, which kept no size."""
         for item in items:
             del self.heap.state.asked[item]
-            self.poke(item, WORD.pack(4 * self.heap.state.item_class[item] + 3))
+            self.poke_word(item, used_header(self.heap.state.item_class[item], 0))
 
     def poke(self, position, content):
         """Writes bytes from outside; the caller sees to decoding where it is needed."""
@@ -186,16 +243,18 @@ class Run:
         self.commands += struct.pack("<cQQ", b"P", position, len(content)) + content
         self.steps.append(Step("poke", position, content, None))
 
+    def poke_word(self, position, value):
+        self.poke(position, self.shape.words.pack(value))
 
-def random_length(rng):
+
+def random_length(rng, shape):
     """A length that may be lent, with all the borders that 01 names well hit."""
-    low, high = rng.choices(
-        ((SHORTEST, 700), (4430, 4570), (5000, 20000), (20000, 131072), (131072, LONGEST), (LONGEST - 8, LONGEST)),
-        (15, 15, 35, 20, 8, 5))[0]
-    return rng.randint(low, high)
+    habits = HABITS[shape]
+    ranges = (habits.tiny, habits.first_page, *habits.played, (shape.longest - 8, shape.longest))
+    return rng.randint(*rng.choices(ranges, (15, 15, 35, 20, 8, 5))[0])
 
 
-def garbage(rng, length):
+def garbage(rng, shape, length):
     """What a lent buffer may hold before it is initialised."""
     kind = rng.randrange(5)
     if kind == 0:
@@ -204,27 +263,34 @@ def garbage(rng, length):
         return b"\xff" * length
     content = rng.randbytes(length)
     if kind == 2:
-        content = (MAGIC + content[8:])[:length]
+        content = (shape.magic + content[8:])[:length]
     elif kind == 3:
-        content = (MAGIC[:7] + b"\x02" + content[8:])[:length]
+        content = (other_magic(shape) + content[8:])[:length]
     return content
+
+
+def other_magic(shape):
+    """The first bytes of a heap of the other shape."""
+    return next(other.magic for other in SHAPES.values() if other != shape)
 
 
 def free_interior(rng, state, length):
     """A stretch of bytes, inside a free block or behind the end, that may be anything."""
     if state.free and rng.random() < 0.8:
         position = rng.choice(state.free)
-        return position + 16, state.blocks[position][1] - 32
+        return position + 2 * state.shape.word, state.blocks[position][1] - state.shape.smallest_free
     return state.end, length - state.end
 
 
 def forged_words(rng, state):
     """Words that look like tags, headers and links of this heap."""
-    position = rng.choice(state.starts)
+    shape, position = state.shape, rng.choice(state.starts)
     kind, size = state.blocks[position]
-    words = (size + kind, size, size + 3, position, position - 48, 4 * rng.randrange(32) + rng.choice((1, 3)),
-             16 * (position - 40) + 4 * rng.randrange(32) + 1, 275, 0, 2**64 - 8)
-    return b"".join(WORD.pack(rng.choice(words)) for _ in range(rng.randint(1, 6)))
+    words = (size + kind, size, size + PAGE, position, position - shape.index_page,
+             4 * rng.randrange(shape.classes) + rng.choice((ITEM_FREE, ITEM_IN_USE)),
+             free_header(rng.randrange(shape.classes), position + shape.word - shape.index_page),
+             shape.index_tag, 0, 2**(8 * shape.word) - 8)
+    return b"".join(shape.words.pack(rng.choice(words)) for _ in range(rng.randint(1, 6)))
 
 
 FILLING, DRAINING = (80, 10, 10), (10, 20, 70)
@@ -240,6 +306,7 @@ class Player:
     def __init__(self, rng, run, moods=MOODS):
         self.rng = rng
         self.run = run
+        self.shape = run.shape
         self.moods = moods
         self.live = []
         self.place = {}  # address -> its index in live
@@ -249,7 +316,7 @@ class Player:
         self.forget_share = rng.choice((0, 0.05, 0.3))  # of what is poked
         self.sweep_share = rng.choice((0, 0.02, 0.1)) * min(1, SWEPT_OFTEN / max(1, len(run.heap.data)))
         self.set_mood(moods[0])
-        self.class_of_run = rng.randrange(CLASSES)
+        self.class_of_run = rng.randrange(self.shape.classes)
         self.size_makers = rng.choice((
             (self.small,), (self.one_class,), (self.block,), (self.small, self.block), (self.edge, self.fit),
             (self.block, self.large, self.fit), (self.one_class, self.one_class, self.block, self.fit),
@@ -264,19 +331,20 @@ class Player:
     # Sizes.
 
     def small(self):
-        return self.rng.randint(1, 256)
+        return self.rng.randint(1, self.shape.largest_item)
 
     def one_class(self):
-        return 8 * self.class_of_run + self.rng.randint(1, 8)
+        return self.rng.choice(sizes_of(self.class_of_run))
 
     def edge(self):
-        return self.rng.choice(EDGE_SIZES)
+        return self.rng.choice(edge_sizes(self.shape))
 
     def block(self):
-        return self.rng.randint(257, 2000)
+        return self.rng.randint(self.shape.largest_item + 1, HABITS[self.shape].block)
 
     def large(self):
-        return self.rng.randint(257, max(300, len(self.run.heap.data) // self.rng.choice((1, 4, 20))))
+        item = self.shape.largest_item
+        return self.rng.randint(item + 1, max(item + 44, len(self.run.heap.data) // self.rng.choice((1, 4, 20))))
 
     def fit(self):
         """A size that just fits a free block, or leaves or lacks a little."""
@@ -284,7 +352,7 @@ class Player:
         if not state or not state.free:
             return self.block()
         whole = state.blocks[self.rng.choice(state.free)][1]
-        return self.near(whole - 16)
+        return self.near(whole - self.shape.tags)
 
     def near(self, capacity):
         less = self.rng.choice((-8, 0, 0, 8, 16, 24, 32, 40))
@@ -292,7 +360,7 @@ class Player:
 
     def size(self):
         if self.rng.random() < 0.02:
-            return self.rng.choice(BAD_SIZES)
+            return self.rng.choice(bad_sizes(self.shape))
         return self.rng.choice(self.size_makers)()
 
     def new_size(self, address):
@@ -301,7 +369,7 @@ class Player:
         if record is None or self.rng.random() < 0.4:
             return self.size()
         capacity = record.capacity
-        right = address + capacity + 8
+        right = address + capacity + self.shape.word
         if self.rng.random() < 0.5 and state.is_free(right):
             capacity += state.blocks[right][1]
         return self.near(capacity)
@@ -314,25 +382,26 @@ class Player:
         return self.wrong_address()
 
     def wrong_address(self):
-        rng, data = self.rng, self.run.heap.data
-        near = rng.choice(self.live or [320]) + rng.choice((-16, -8, -1, 1, 8, 16, 24, 2**32, 2**63))
+        rng, data, shape, word = self.rng, self.run.heap.data, self.shape, self.shape.word
+        near = (rng.choice(self.live or [shape.data_area + word])
+                + rng.choice((-2 * word, -word, -1, 1, word, 2 * word, 3 * word, 2**32, 2**63)))
         anywhere = rng.randrange(len(data) + 16)
-        choices = [near, near, anywhere, anywhere // 8 * 8, 2**64 - 1, 2**64 - 8, 48, DATA_AREA, len(data),
-                   end_of(len(data)), *self.dead[-4:], *self.forged[-4:]]
+        choices = [near, near, anywhere, anywhere // word * word, 2**64 - 1, 2**64 - 8, shape.index_page, shape.data_area,
+                   len(data), end_of(len(data)), *self.dead[-4:], *self.forged[-4:]]
         if self.run.heap.state:
             choices += self.structure_addresses(self.run.heap.state)
         return rng.choice(choices)
 
     def structure_addresses(self, state):
         """Addresses that belong to a block, a page or a free item, but are no live payload's."""
-        position = self.rng.choice(state.starts)
-        found = [position, position + 8, position + 16]
+        position, word = self.rng.choice(state.starts), self.shape.word
+        found = [position, position + word, position + 2 * word]
         if state.page_class:
             page = self.rng.choice(list(state.page_class))
             items = state.items_of_page(page)
-            found += [page, page + 8, self.rng.choice(items) + 8, items.stop + 8]
+            found += [page, page + word, self.rng.choice(items) + word, items.stop + word]
         free_items = state.lists[self.class_of_run]
-        return found + [item + 8 for item in free_items[-2:]]
+        return found + [item + word for item in free_items[-2:]]
 
     def add(self, address):
         self.place[address] = len(self.live)
@@ -374,8 +443,8 @@ class Player:
         behind = page + state.blocks[page][1]
         for cleared in (page, behind) if behind in state.page_class and self.rng.random() < 0.7 else (page,):
             for item in [item for item in state.items_of_page(cleared) if item in state.item_class]:
-                self.run.free(item + 8)
-                self.remove(item + 8)
+                self.run.free(item + self.shape.word)
+                self.remove(item + self.shape.word)
 
     def sweep(self):
         """Sweeps, once or twice; often where there is something to give back, seldom where there is no page."""
@@ -393,21 +462,22 @@ class Player:
 
     def poke_forged(self):
         """Puts into a live payload what stands before a payload of its kind."""
-        start = self.rng.choice(self.live)
+        start, shape = self.rng.choice(self.live), self.shape
         room = self.run.heap.state.capacity(start)
-        offset = 8 * self.rng.randrange(room // 8)
+        at = start + shape.word * self.rng.randrange(room // shape.word)
         size = self.rng.choice((0, self.rng.randint(room - 7, room)))
-        word = 128 * size + 4 * class_of(room) + 3 if room <= LARGEST_ITEM else room + 16 + VARIABLE
-        self.run.poke(start + offset, WORD.pack(word))
-        self.forged = self.forged[-20:] + [start + offset + 8]
+        forged = used_header(class_of(room), size) if room <= shape.largest_item else shape.block_size(room) + VARIABLE
+        self.run.poke_word(at, forged)
+        self.forged = self.forged[-20:] + [at + shape.word]
 
     def poke_spare_bytes(self):
         """Makes the spare bytes of a page, if it has any, look like one more item in use."""
         state = self.run.heap.state
         page = self.rng.choice(list(state.page_class))
-        start, stop = state.items_of_page(page).stop, page + state.blocks[page][1] - 8
+        start, stop = state.items_of_page(page).stop, page + state.blocks[page][1] - self.shape.word
         if start != stop:
-            self.run.poke(start, WORD.pack(4 * state.page_class[page] + 3) * ((stop - start) // 8))
+            header = self.shape.words.pack(used_header(state.page_class[page], 0))
+            self.run.poke(start, header * ((stop - start) // len(header)))
 
     def poke_any(self):
         """Writes into a live payload or into other bytes that may be anything."""
@@ -420,7 +490,7 @@ class Player:
         content = forged_words(rng, heap.state) if rng.random() < 0.5 else rng.randbytes(rng.randint(1, 80))
         offset = rng.randrange(max(1, room - len(content) + 1))
         if rng.random() < 0.5:
-            offset = offset // 8 * 8
+            offset = offset // self.shape.word * self.shape.word
         content = content[:max(0, room - offset)]
         if content:
             self.run.poke(start + offset, content)
@@ -458,7 +528,7 @@ class Player:
         run.call("check")
         self.play(self.rng.randrange(4))
         run.call("initialise")
-        if run.heap.verdict == 0 or not SHORTEST <= len(run.heap.data) <= LONGEST:
+        if run.heap.verdict in (GRANTED, BAD_LENGTH):
             return
         self.play(self.rng.randrange(4))
         run.poke(self.rng.randrange(8), b"\x00")
@@ -466,36 +536,45 @@ class Player:
         run.call("initialise")
 
 
-def page_size(rng, c):
+def page_size(rng, shape, c):
     """The size of a page of class c, with spare bytes or without."""
-    return items_in_page(c) * item_size(c) + 16 + rng.choice((0, 8, 16, 24))
+    return shape.page_size(c) + rng.choice(shape.spare)
 
 
-def invented_block(rng, taste, classes, after_free):
+def invented_block(rng, shape, taste, classes, after_free):
     """The kind and the size of a block, and the class if it is a page."""
     kind = rng.choices((FREE, VARIABLE, PAGE), taste)[0]
+    least_free, least_variable = shape.smallest_free // 8, shape.smallest_variable // 8
     if kind == FREE and not after_free:
-        return FREE, 8 * rng.choice((4, 5, 6, 36, rng.randint(4, 100))), None
+        return FREE, 8 * rng.choice((least_free, least_free + 1, least_free + 2, least_variable + 1,
+                                     rng.randint(least_free, 25 * least_free))), None
     if kind == PAGE:
         c = rng.choice(classes)
-        return PAGE, page_size(rng, c), c
-    return VARIABLE, 8 * rng.choice((35, rng.randint(35, 50), rng.randint(35, 300))), None
+        return PAGE, page_size(rng, shape, c), c
+    return VARIABLE, 8 * rng.choice((least_variable, rng.randint(least_variable, least_variable + 15),
+                                     rng.randint(least_variable, HABITS[shape].invented_block // 8))), None
 
 
-def last_page(rng, taste, classes, room):
+def room_behind(shape):
+    """So much at least is left behind an invented block that is not the last, so that one of any kind may stand there."""
+    return 2 * shape.smallest_variable
+
+
+def last_page(rng, shape, taste, classes, room):
     """The class and the size of a page that is to be the last block; the size is 0 where none is to be."""
     c = rng.choice(classes)
-    size = page_size(rng, c)
-    return c, size if taste[2] and size + 560 <= room and rng.random() < 0.5 else 0
+    size = page_size(rng, shape, c)
+    return c, size if taste[2] and size + room_behind(shape) <= room and rng.random() < 0.5 else 0
 
 
-def invented_page(rng, state, page, c, share_in_use, share_known):
+def invented_page(rng, state, page, c, in_use, share_known):
+    """Makes a page of a block; "in_use" tells of an item, by its number in the page, whether it is."""
     state.page_class[page] = c
-    for item in state.items_of_page(page):
-        if rng.random() < share_in_use:
+    for number, item in enumerate(state.items_of_page(page)):
+        if in_use(number):
             state.item_class[item] = c
             if rng.random() < share_known:
-                state.asked[item] = 8 * c + rng.randint(1, 8)
+                state.asked[item] = rng.choice(sizes_of(c))
         else:
             state.lists[c].append(item)
 
@@ -506,62 +585,63 @@ TASTES_FOR_PAGES = ((0, 0, 1), (1, 1, 8), (2, 1, 4))
 PAGE_TASTES = ((0, 1, 0), (1, 4, 1), (3, 2, 0))
 
 
-def invented_state(rng, end, tastes):
+def invented_state(rng, shape, end, tastes):
     """Any sound heap, not only one that calls can lead to."""
-    state = State(end)
+    state = State(shape, end)
     taste, page_taste = rng.choice(tastes), rng.choice(PAGE_TASTES)
-    classes = rng.choices(range(CLASSES), k=rng.choice((1, 2, 4, 40)))
+    classes = rng.choices(range(shape.classes), k=rng.choice((1, 2, 4, 40)))
     share_in_use = rng.choice((0, 0.1, 0.5, 0.9, 1))
     share_known = rng.choice((0, 0.5, 1))  # of the items in use; 0: an older heap
-    last_class, last_size = last_page(rng, taste, classes, end - DATA_AREA)
-    position, after_free = DATA_AREA, False
+    last_class, last_size = last_page(rng, shape, taste, classes, end - shape.data_area)
+    position, after_free = shape.data_area, False
     while position != end:
-        kind, size, c = invented_block(rng, taste, classes, after_free)
+        kind, size, c = invented_block(rng, shape, taste, classes, after_free)
         left = end - last_size - position
         if left == 0:
             kind, size, c = PAGE, last_size, last_class
-        elif size != left and size + 560 > left:  # what is left must hold a block that may stand there
-            kind, size = (VARIABLE if after_free or rng.random() < 0.5 and left >= 280 else FREE), left
+        elif size != left and size + room_behind(shape) > left:
+            kind, size = (VARIABLE if after_free or rng.random() < 0.5 and left >= shape.smallest_variable else FREE), left
         state.add_block(position, kind, size)
         if kind == PAGE:
-            invented_page(rng, state, position, c, rng.choices((0, share_in_use, 1), page_taste)[0], share_known)
+            share = rng.choices((0, share_in_use, 1), page_taste)[0]
+            invented_page(rng, state, position, c, lambda _: rng.random() < share, share_known)
         position, after_free = position + size, kind == FREE
     for items in state.lists:
         rng.shuffle(items)
     return state
 
 
-def invented_heap(rng, length, tastes=TASTES):
+def invented_heap(rng, shape, length, tastes=TASTES):
     """The bytes of any sound heap, with garbage wherever bytes may be anything."""
-    heap = Heap(bytearray(rng.randbytes(length)))
+    heap = Heap(bytearray(rng.randbytes(length)), shape)
     heap.initialise()
-    heap.state = invented_state(rng, end_of(length), tastes)
+    heap.state = invented_state(rng, shape, end_of(length), tastes)
     heap.lay_out_whole()
     return bytes(heap.data)
 
 
-def played_heap(rng, length, count):
+def played_heap(rng, shape, length, count):
     """The bytes of a heap after a random run of this many calls."""
-    run = Run("", garbage(rng, length), 0, "garbage")
+    run = Run(shape, "", garbage(rng, shape, length), 0, "garbage")
     player = Player(rng, run)
     player.begin()
     player.play(count)
     return bytes(run.heap.data)
 
 
-def sound_heap(rng, length):
+def sound_heap(rng, shape, length):
     if rng.random() < 0.5:
-        return invented_heap(rng, length)
-    return played_heap(rng, length, rng.randint(50, 500))
+        return invented_heap(rng, shape, length)
+    return played_heap(rng, shape, length, rng.randint(50, 500))
 
 
-def random_run(rng, label):
+def random_run(rng, shape, label):
     """A run over one buffer, from garbage or from any sound heap on."""
     bad = rng.random() < 0.05
-    length = rng.choice(BAD_LENGTHS) if bad else random_length(rng)
+    length = rng.choice(bad_lengths(shape)) if bad else random_length(rng, shape)
     invented = not bad and rng.random() < 0.3
-    start = invented_heap(rng, length) if invented else garbage(rng, length)
-    run = Run(label, start, rng.randrange(8), "sound heap" if invented else "garbage")
+    start = invented_heap(rng, shape, length) if invented else garbage(rng, shape, length)
+    run = Run(shape, label, start, rng.randrange(8), "sound heap" if invented else "garbage")
     player = Player(rng, run)
     if not invented:
         player.begin()
@@ -574,15 +654,16 @@ def random_run(rng, label):
     return run
 
 
-def full_of_pages(rng, c, shares_in_use):
+def full_of_pages(rng, shape, c, shares_in_use):
     """The bytes of the longest heap, with as many pages of class c as it can have, each with one of these shares in use."""
-    heap = Heap(bytearray(LONGEST))
+    heap = Heap(bytearray(shape.longest), shape)
     heap.initialise()
-    position, left = DATA_AREA, heap.state.remove_block(DATA_AREA)[1]
-    size = items_in_page(c) * item_size(c) + 16
-    while left >= size + 32:
+    position, size, count = shape.data_area, shape.page_size(c), shape.items_in_page(c)
+    left = heap.state.remove_block(position)[1]
+    while left >= size + shape.smallest_free:
         heap.state.add_block(position, PAGE, size)
-        invented_page(rng, heap.state, position, c, rng.choice(shares_in_use), 1)
+        in_use = set(rng.sample(range(count), round(count * rng.choice(shares_in_use))))
+        invented_page(rng, heap.state, position, c, in_use.__contains__, 1)
         position, left = position + size, left - size
     heap.state.add_block(position, FREE, left)
     rng.shuffle(heap.state.lists[c])
@@ -590,9 +671,9 @@ def full_of_pages(rng, c, shares_in_use):
     return bytes(heap.data)
 
 
-def swept_run(rng, label, start):
+def swept_run(rng, shape, label, start):
     """Sweeps of a sound heap, and a few other calls in between."""
-    run = Run(label, start, rng.randrange(8), "sound heap")
+    run = Run(shape, label, start, rng.randrange(8), "sound heap")
     player = Player(rng, run)
     for _ in range(3):
         run.sweep_twice()
@@ -600,16 +681,17 @@ def swept_run(rng, label, start):
     return run
 
 
-def swept_heap(rng):
+def swept_heap(rng, shape):
     """The bytes of a sound heap with some pages."""
-    return invented_heap(rng, rng.randint(5000, 60000), TASTES_FOR_PAGES)
+    return invented_heap(rng, shape, rng.randint(*HABITS[shape].swept), TASTES_FOR_PAGES)
 
 
-def run_and_longer(rng, label):
+def run_and_longer(rng, shape, label):
     """A run of allocations, frees and sweeps on a fresh heap, and the same on a longer one with other bytes in its records.
     While the shorter has room, both answer alike: demand 3."""
-    length = rng.choice((rng.randint(4430, 4570), rng.randint(4600, 40000), rng.randint(4600, 40000)))
-    shorter, longer = (Run(label, rng.randbytes(n), 0, "garbage") for n in (length, length + rng.randint(1, 30000)))
+    habits = HABITS[shape]
+    length = rng.choice([rng.randint(*lengths) for lengths in (habits.first_page, habits.paired, habits.paired)])
+    shorter, longer = (Run(shape, label, rng.randbytes(n), 0, "garbage") for n in (length, length + rng.randint(1, habits.longer)))
     shorter.call("initialise")
     player = Player(rng, shorter, MOODS_WITHOUT_RESIZE)
     player.sweep_share = 0.05

@@ -1,5 +1,5 @@
 #!/usr/bin/env python3
-"""A second, independent program for the heap of document 01, as document 02 changes it.
+"""A second, independent program for the heap of document 01, as document 02 changes it, in both of its shapes.
 
 It keeps the heap as an abstract thing: blocks in order, pages with items, one
 list of free items for each class. The rules work on that. After each rule the
@@ -11,24 +11,19 @@ Run alone, it checks the figures of 01 and 02 and prints how many there were.
 
 import bisect
 import struct
+from collections.abc import Callable
+from dataclasses import dataclass
+from functools import cached_property
 
-MAGIC = bytes.fromhex("7879616c6c6f6301")
-SHORTEST, LONGEST = 344, 1048576
-LARGEST_SIZE = 1048576
-LARGEST_ITEM = 256
-INDEX_PAGE, DATA_AREA = 48, 312
-FIRST_FREE, STORED_END = 24, 32
-INDEX_TAG = 275
-CLASSES = 32
 FREE, VARIABLE, PAGE = 0, 2, 3
-SMALLEST_FREE, SMALLEST_VARIABLE = 32, 280
 ITEM_FREE, ITEM_IN_USE = 1, 3
 
 GRANTED, BAD_LENGTH, NO_HEAP, NOT_SOUND, BAD_SIZE, BAD_ADDRESS, NO_ROOM, ALREADY = range(8)
 
-WORD = struct.Struct("<Q")
 END_OF_WALK = ("end", 0, 0)
 
+
+# What is the same for every shape: sizes of blocks and of payloads are multiples of 8, and a class has 8 sizes.
 
 def round_up(size):
     return (size + 7) // 8 * 8
@@ -42,16 +37,148 @@ def class_of(size):
     return (size - 1) // 8
 
 
-def item_size(c):
-    return 8 * c + 16
+def sizes_of(c):
+    return range(8 * c + 1, 8 * c + 9)
 
 
-def items_in_page(c):
-    return 4096 // item_size(c) + 1
+def item_capacity(c):
+    return 8 * c + 8
 
 
-def word_at(data, position):
-    return WORD.unpack_from(data, position)[0]
+def used_header(c, size):
+    """The header of an item in use; size 0, of older heaps, means that it is not known."""
+    return 128 * size + 4 * c + ITEM_IN_USE
+
+
+def free_header(c, following):
+    """The header of a free item; "following" is the offset of the next one, 0 if none."""
+    return 16 * following + 4 * c + ITEM_FREE
+
+
+@dataclass(frozen=True)
+class Shape:
+    """The numbers in which one unit's heap differs from another's, and what follows from them."""
+    name: str
+    magic: bytes  # the first bytes of a heap
+    word: int  # bytes of a stored number
+    classes: int
+    items_that_fit: Callable[[int], int]  # how many items a page has, by what one of them takes
+    longest: int  # bytes of the longest heap; so much is the largest size, too
+
+    def __reduce__(self):
+        return self.name.upper()  # for another process the shape's own name is enough
+
+    # The header: the first bytes, four words, and the block of the index page.
+
+    @cached_property
+    def first_free(self):
+        return len(self.magic) + 2 * self.word
+
+    @cached_property
+    def stored_end(self):
+        return self.first_free + self.word
+
+    @cached_property
+    def index_block(self):
+        return self.stored_end + self.word
+
+    @cached_property
+    def index_page(self):
+        return self.index_block + self.word
+
+    @cached_property
+    def data_area(self):
+        return self.head(self.classes) + self.word
+
+    def head(self, c):
+        """The position of the word with the offset of the first free item of class c; behind the last is the high tag."""
+        return self.index_page + self.word * c
+
+    @cached_property
+    def index_tag(self):
+        return self.data_area - self.index_block + PAGE
+
+    def fixed_words(self, end):
+        """The words that never change, by their positions."""
+        return {len(self.magic): self.data_area, len(self.magic) + self.word: self.index_page, self.stored_end: end,
+                self.index_block: self.index_tag, self.head(self.classes): self.index_tag}
+
+    # Blocks and items.
+
+    @cached_property
+    def tags(self):
+        return 2 * self.word
+
+    @cached_property
+    def smallest_free(self):
+        return self.tags + 2 * self.word  # two links
+
+    @cached_property
+    def largest_item(self):
+        return item_capacity(self.classes - 1)
+
+    @cached_property
+    def smallest_variable(self):
+        return self.block_size(self.largest_item + 1)
+
+    @cached_property
+    def smallest_page(self):
+        return min(map(self.page_size, range(self.classes)))
+
+    @cached_property
+    def spare(self):
+        """How many bytes of a page its items may leave unused: fewer than a free block has."""
+        return range(0, self.smallest_free, 8)
+
+    def block_size(self, size):
+        """How many bytes a block for a payload of this size needs."""
+        return round_up(size) + self.tags
+
+    def item_size(self, c):
+        return self.word + item_capacity(c)
+
+    def items_in_page(self, c):
+        return self.items_that_fit(self.item_size(c))
+
+    def page_size(self, c):
+        """How many bytes a page of class c needs."""
+        return self.block_size(self.items_in_page(c) * self.item_size(c))
+
+    # Lengths and sizes that are not refused.
+
+    @cached_property
+    def shortest(self):
+        return self.data_area + self.smallest_free
+
+    @cached_property
+    def largest_size(self):
+        return self.longest
+
+    # Words.
+
+    @cached_property
+    def words(self):
+        return struct.Struct({4: "<I", 8: "<Q"}[self.word])
+
+    def word_at(self, data, position):
+        return self.words.unpack_from(data, position)[0]
+
+    def free_item(self, header):
+        """The offset of the next item in a free item's header, a multiple of the word's bytes, and the header without it."""
+        words, rest = divmod(header, 16 * self.word)
+        return words * self.word, rest
+
+
+WIDE = Shape(name="wide", magic=bytes.fromhex("7879616c6c6f6301"), word=8, classes=32,
+             items_that_fit=lambda item: 4096 // item + 1, longest=1048576)
+HAND = Shape(name="hand", magic=bytes.fromhex("7879616c6c6f6302"), word=4, classes=16,
+             items_that_fit=lambda item: 2, longest=65536)
+SHAPES = {shape.name: shape for shape in (WIDE, HAND)}
+
+
+def shape_of(data):
+    """The shape that the first bytes tell; what is no hand unit's heap is read as the console's."""
+    return HAND if data[:8] == HAND.magic else WIDE
 
 
 class Unsound(Exception):
@@ -66,13 +193,14 @@ def require(condition, what):
 class State:
     """The abstract heap. It knows nothing of bytes."""
 
-    def __init__(self, end):
+    def __init__(self, shape, end):
+        self.shape = shape
         self.end = end
         self.starts = []  # positions of all blocks, rising
         self.blocks = {}  # position -> (kind, size)
         self.page_class = {}  # position of a page -> class
         self.free = []  # positions of the free blocks, rising
-        self.lists = [[] for _ in range(CLASSES)]  # item positions, the first item last
+        self.lists = [[] for _ in range(shape.classes)]  # item positions, the first item last
         self.item_class = {}  # position of an item in use -> class
         self.asked = {}  # position of an item in use -> the size that was asked for, where that is known
 
@@ -107,13 +235,20 @@ class State:
         after = self.free[index + 1] if index + 1 < len(self.free) else 0
         return before, after
 
+    def next_link(self, position):
+        """Where a free block's link to the next one stands."""
+        return position + self.shape.word
+
+    def previous_link(self, position):
+        return position + self.blocks[position][1] - 2 * self.shape.word
+
     def lowest_fit(self, size):
         return next((p for p in self.free if self.blocks[p][1] >= size), None)
 
     def items_of_page(self, position):
-        c = self.page_class[position]
-        first = position + 8
-        return range(first, first + items_in_page(c) * item_size(c), item_size(c))
+        c, first = self.page_class[position], position + self.shape.word
+        step = self.shape.item_size(c)
+        return range(first, first + self.shape.items_in_page(c) * step, step)
 
     def held_in(self, page):
         """How many items of a page are in use."""
@@ -121,67 +256,67 @@ class State:
 
     def capacity(self, address):
         """How many bytes the payload at a live address holds, or none."""
-        position = address - 8
+        position = address - self.shape.word
         if position in self.item_class:
-            return item_size(self.item_class[position]) - 8
+            return item_capacity(self.item_class[position])
         kind, size = self.blocks.get(position, (None, 0))
-        return size - 16 if kind == VARIABLE else None
+        return size - self.shape.tags if kind == VARIABLE else None
 
     def shown(self, address):
         """How many of these bytes a look-up shows: as many as were asked for, where that is known."""
-        return self.asked.get(address - 8) or self.capacity(address)
+        return self.asked.get(address - self.shape.word) or self.capacity(address)
 
     def live_addresses(self):
-        variable = [p + 8 for p in self.starts if self.blocks[p][0] == VARIABLE]
-        return variable + [p + 8 for p in self.item_class]
+        variable = [p for p in self.starts if self.blocks[p][0] == VARIABLE]
+        return [p + self.shape.word for p in (*variable, *self.item_class)]
 
 
-def read_fixed_words(data, end):
-    require(data[:8] == MAGIC, "first 8 bytes")
-    require(word_at(data, 8) == DATA_AREA, "data area position")
-    require(word_at(data, 16) == INDEX_PAGE, "index page position")
-    require(word_at(data, STORED_END) == end, "stored end")
-    require(word_at(data, 40) == INDEX_TAG, "index page's low tag")
-    require(word_at(data, 304) == INDEX_TAG, "index page's high tag")
+def read_fixed_words(data, state):
+    require(data.startswith(state.shape.magic), "first bytes")
+    for position, value in state.shape.fixed_words(state.end).items():
+        require(state.shape.word_at(data, position) == value, f"fixed word at {position}")
 
 
-def read_block(data, position, end):
+def read_block(data, state, position):
     """The kind and the size of the block at a position."""
-    require(position + 16 <= end, "block runs past the end")
-    tag = word_at(data, position)
+    shape = state.shape
+    require(position + shape.tags <= state.end, "block runs past the end")
+    tag = shape.word_at(data, position)
     kind, size = tag % 8, tag - tag % 8
     require(kind in (FREE, VARIABLE, PAGE), "kind")
-    smallest = {FREE: SMALLEST_FREE, VARIABLE: SMALLEST_VARIABLE, PAGE: 4112}[kind]
+    smallest = {FREE: shape.smallest_free, VARIABLE: shape.smallest_variable, PAGE: shape.smallest_page}[kind]
     require(size >= smallest, "size too small")
-    require(position + size <= end, "block runs past the end")
-    require(word_at(data, position + size - 8) == tag, "tags differ")
+    require(position + size <= state.end, "block runs past the end")
+    require(shape.word_at(data, position + size - shape.word) == tag, "tags differ")
     return kind, size
 
 
 def read_page(data, state, position, size, next_item):
     """Notes a page's class and items; next_item gets its free items."""
-    c = word_at(data, position + 8) // 4 % CLASSES
+    shape = state.shape
+    c = shape.word_at(data, position + shape.word) // 4 % shape.classes
     state.page_class[position] = c
-    step, count = item_size(c), items_in_page(c)
-    require(size - 16 - count * step in (0, 8, 16, 24), "page's size")
-    in_use, free = 4 * c + ITEM_IN_USE, 4 * c + ITEM_FREE
-    for item in range(position + 8, position + 8 + count * step, step):
-        padding, low = divmod(word_at(data, item), 128)
+    require(size - shape.page_size(c) in shape.spare, "page's size")
+    in_use, free, sizes = used_header(c, 0), free_header(c, 0), sizes_of(c)
+    for item in state.items_of_page(position):
+        header = shape.word_at(data, item)
+        asked, low = divmod(header, 128)
         if low == in_use:
-            require(padding == 0 or 8 * c < padding <= 8 * c + 8, "item's size")
+            require(asked == 0 or asked in sizes, "item's size")
             state.item_class[item] = c
-            if padding:
-                state.asked[item] = padding
+            if asked:
+                state.asked[item] = asked
         else:
-            require(low == free, "item's class or flags")
-            next_item[item] = (c, 8 * padding)
+            following, rest = shape.free_item(header)
+            require(rest == free, "item's class or flags")
+            next_item[item] = (c, following)
 
 
 def read_blocks(data, state):
     next_item = {}
-    position, after_free = DATA_AREA, False
+    position, after_free = state.shape.data_area, False
     while position != state.end:
-        kind, size = read_block(data, position, state.end)
+        kind, size = read_block(data, state, position)
         require(not (after_free and kind == FREE), "two free blocks touch")
         after_free = kind == FREE
         state.starts.append(position)
@@ -195,21 +330,22 @@ def read_blocks(data, state):
 
 
 def read_free_list(data, state):
+    shape = state.shape
     first = state.free[0] if state.free else 0
-    require(word_at(data, FIRST_FREE) == first, "first free block")
+    require(shape.word_at(data, shape.first_free) == first, "first free block")
     for position in state.free:
-        size = state.blocks[position][1]
         before, after = state.free_neighbours(position)
-        require(word_at(data, position + 8) == after, "next link")
-        require(word_at(data, position + size - 16) == before, "previous link")
+        require(shape.word_at(data, state.next_link(position)) == after, "next link")
+        require(shape.word_at(data, state.previous_link(position)) == before, "previous link")
 
 
 def read_item_lists(data, state, next_item):
     """Each list takes its items out of next_item, so a second visit finds nothing."""
-    for c in range(CLASSES):
-        offset = word_at(data, INDEX_PAGE + 8 * c)
+    shape = state.shape
+    for c in range(shape.classes):
+        offset = shape.word_at(data, shape.head(c))
         while offset != 0:
-            item = offset + INDEX_PAGE
+            item = offset + shape.index_page
             require(next_item.get(item, (None, 0))[0] == c, "list visits no fresh free item of its class")
             offset = next_item.pop(item)[1]
             state.lists[c].append(item)
@@ -217,28 +353,19 @@ def read_item_lists(data, state, next_item):
     require(not next_item, "a free item is on no list")
 
 
-def read_heap(data):
+def read_heap(data, shape):
     """The abstract heap of these bytes; raises Unsound if there is none."""
-    require(SHORTEST <= len(data) <= LONGEST, "length")
-    state = State(end_of(len(data)))
-    read_fixed_words(data, state.end)
+    require(shape.shortest <= len(data) <= shape.longest, "length")
+    state = State(shape, end_of(len(data)))
+    read_fixed_words(data, state)
     next_item = read_blocks(data, state)
     read_free_list(data, state)
     read_item_lists(data, state, next_item)
     return state
 
 
-def sound(data):
-    """Whether these bytes are a sound heap."""
-    try:
-        read_heap(data)
-    except Unsound:
-        return False
-    return True
-
-
 class Heap:
-    """The calls of 01, as 02 changes them, on a lent bytearray.
+    """The calls of 01, as 02 changes them, on a lent bytearray; the console's unless another shape is told.
 
     The abstract heap is kept between calls. Whoever changes bytes other than
     those that may be anything must call decode afterwards. "writes" gathers
@@ -246,8 +373,9 @@ class Heap:
     "kept" counts the resizes that found no room and left their record as it is.
     """
 
-    def __init__(self, data):
+    def __init__(self, data, shape=WIDE):
         self.data = data
+        self.shape = shape
         self.writes = []
         self.kept = 0
         self.decode()
@@ -256,13 +384,13 @@ class Heap:
         """Reads the bytes anew and settles the refusal that any call but initialise begins with."""
         self.state = None
         self._forget_changes()
-        if not SHORTEST <= len(self.data) <= LONGEST:
+        if not self.shape.shortest <= len(self.data) <= self.shape.longest:
             self.verdict = BAD_LENGTH
-        elif self.data[:8] != MAGIC:
+        elif not self.data.startswith(self.shape.magic):
             self.verdict = NO_HEAP
         else:
             try:
-                self.state = read_heap(self.data)
+                self.state = read_heap(self.data, self.shape)
                 self.verdict = GRANTED
             except Unsound:
                 self.verdict = NOT_SOUND
@@ -272,17 +400,17 @@ class Heap:
     def initialise(self):
         if self.verdict == BAD_LENGTH:
             return BAD_LENGTH, 0
-        if self.data[:8] == MAGIC:
+        if self.data.startswith(self.shape.magic):
             return ALREADY, 0
         end = end_of(len(self.data))
-        self.state = State(end)
+        self.state = State(self.shape, end)
         self.verdict = GRANTED
-        self._write(0, MAGIC)
-        for position, value in ((8, DATA_AREA), (16, INDEX_PAGE), (STORED_END, end), (40, INDEX_TAG), (304, INDEX_TAG)):
+        self._write(0, self.shape.magic)
+        for position, value in self.shape.fixed_words(end).items():
             self._put(position, value)
-        for c in range(CLASSES):
+        for c in range(self.shape.classes):
             self._changed_list(c, 0)
-        self._add_free(DATA_AREA, end - DATA_AREA)
+        self._add_free(self.shape.data_area, end - self.shape.data_area)
         self._lay_out_changes()
         return GRANTED, 0
 
@@ -330,7 +458,7 @@ class Heap:
 
     def statistics(self):
         """The refusal, the six numbers and the table of classes."""
-        table = [[0, 0, 0] for _ in range(CLASSES)]
+        table = [[0, 0, 0] for _ in range(self.shape.classes)]
         if self.verdict:
             return self.verdict, (0,) * 6, table
         state = self.state
@@ -338,8 +466,8 @@ class Heap:
             table[c][0] += 1
         for c in state.item_class.values():
             table[c][1] += 1
-        for c in range(CLASSES):
-            table[c][2] = len(state.lists[c])
+        for c, items in enumerate(state.lists):
+            table[c][2] = len(items)
         free_sizes = [state.blocks[p][1] for p in state.free]
         variable = sum(kind == VARIABLE for kind, _ in state.blocks.values())
         six = (sum(free_sizes), len(free_sizes), max(free_sizes, default=0), variable,
@@ -367,16 +495,19 @@ class Heap:
         start = 0 if refusal else address
         return refusal, memoryview(self.data)[start:start + length]
 
+    def word_at(self, position):
+        return self.shape.word_at(self.data, position)
+
     def put(self, position, value):
         """No call: a word written by hand, and what the check then says."""
-        WORD.pack_into(self.data, position, value)
+        self.shape.words.pack_into(self.data, position, value)
         self.decode()
         return self.check()
 
     # Refusals that depend on what was asked, and the answer where there are none.
 
     def _refuse_size(self, size):
-        return GRANTED if 1 <= size <= LARGEST_SIZE else BAD_SIZE
+        return GRANTED if 1 <= size <= self.shape.largest_size else BAD_SIZE
 
     def _refuse_address(self, address):
         return BAD_ADDRESS if self.state.capacity(address) is None else GRANTED
@@ -393,9 +524,9 @@ class Heap:
 
     def _allocate(self, size):
         """The new payload's address, or none if there is no room."""
-        if size > LARGEST_ITEM:
-            position = self._take_block(round_up(size) + 16, VARIABLE)
-            return position and position + 8
+        if size > self.shape.largest_item:
+            position = self._take_block(self.shape.block_size(size), VARIABLE)
+            return position and position + self.shape.word
         c = class_of(size)
         if not self.state.lists[c] and not self._make_page(c):
             return None
@@ -403,7 +534,7 @@ class Heap:
         self.state.item_class[item] = c
         self._changed_list(c, 0)
         self._ask(item, size)
-        return item + 8
+        return item + self.shape.word
 
     def _ask(self, item, size):
         """Notes in an item in use for how many bytes it is: document 02, (iv)."""
@@ -411,7 +542,7 @@ class Heap:
         self.changed_items.add(item)
 
     def _make_page(self, c):
-        position = self._take_block(items_in_page(c) * item_size(c) + 16, PAGE)
+        position = self._take_block(self.shape.page_size(c), PAGE)
         if position is None:
             return False
         self.state.page_class[position] = c
@@ -428,9 +559,9 @@ class Heap:
         return position
 
     def _use(self, position, size, whole, kind):
-        """Makes a block of what is free from a position on, by the rule of 32 bytes."""
+        """Makes a block of what is free from a position on; what remains stays free where it can be a block."""
         rest = whole - size
-        if rest >= SMALLEST_FREE:
+        if rest >= self.shape.smallest_free:
             self._add_free(position + size, rest)
         else:
             size = whole
@@ -438,7 +569,7 @@ class Heap:
         self.changed_blocks.add(position)
 
     def _free(self, address):
-        position = address - 8
+        position = address - self.shape.word
         if position in self.state.item_class:
             c = self.state.item_class.pop(position)
             self.state.asked.pop(position, None)
@@ -467,7 +598,7 @@ class Heap:
     def _link_anew(self):
         """Makes the list of every class from its pages: the fullest first, then the lowest; items rise within a page."""
         state = self.state
-        state.lists = [[] for _ in range(CLASSES)]
+        state.lists = [[] for _ in state.lists]
         for page in sorted(state.page_class, key=lambda page: (-state.held_in(page), page)):
             state.lists[state.page_class[page]] += [item for item in state.items_of_page(page) if item not in state.item_class]
         for c, items in enumerate(state.lists):
@@ -480,20 +611,21 @@ class Heap:
 
     def _resize_item(self, address, size):
         """Whether the address is an item that stays; if so it is then for this size."""
-        if self.state.item_class.get(address - 8) != class_of(size):
+        item = address - self.shape.word
+        if self.state.item_class.get(item) != class_of(size):
             return False
-        self._ask(address - 8, size)
+        self._ask(item, size)
         return True
 
     def _resize_block(self, address, size):
         """Whether the address is a block that stays; if so it is shrunk or grown."""
-        position = address - 8
-        if size <= LARGEST_ITEM or position in self.state.item_class:
+        position = address - self.shape.word
+        if size <= self.shape.largest_item or position in self.state.item_class:
             return False
-        wanted = round_up(size) + 16
+        wanted = self.shape.block_size(size)
         _, old = self.state.blocks[position]
         if wanted <= old:
-            if old - wanted >= SMALLEST_FREE:
+            if old - wanted >= self.shape.smallest_free:
                 self.state.blocks[position] = (VARIABLE, wanted)
                 self.changed_blocks.add(position)
                 self._release(position + wanted, old - wanted)
@@ -549,40 +681,39 @@ class Heap:
             if position in self.state.blocks:
                 self._lay_out_block(position)
         if self.changed_blocks:
-            self._put(FIRST_FREE, self.state.free[0] if self.state.free else 0)
+            self._put(self.shape.first_free, self.state.free[0] if self.state.free else 0)
         for c, count in self.changed_lists.items():
             self._lay_out_list(c, count)
         for item in self.changed_items:
-            self._put(item, 128 * self.state.asked.get(item, 0) + 4 * self.state.item_class[item] + ITEM_IN_USE)
+            self._put(item, used_header(self.state.item_class[item], self.state.asked.get(item, 0)))
         self._forget_changes()
 
     def lay_out_whole(self):
         """Writes every named word that is not fixed; changes nothing if the bytes are right."""
         self.changed_blocks.update(self.state.starts)
-        for c in range(CLASSES):
-            self._changed_list(c, len(self.state.lists[c]))
+        for c, items in enumerate(self.state.lists):
+            self._changed_list(c, len(items))
         self.changed_items.update(self.state.item_class)
         self._lay_out_changes()
 
     def _lay_out_block(self, position):
         kind, size = self.state.blocks[position]
         self._put(position, size + kind)
-        self._put(position + size - 8, size + kind)
+        self._put(position + size - self.shape.word, size + kind)
         if kind == FREE:
             before, after = self.state.free_neighbours(position)
-            self._put(position + 8, after)
-            self._put(position + size - 16, before)
+            self._put(self.state.next_link(position), after)
+            self._put(self.state.previous_link(position), before)
 
     def _lay_out_list(self, c, count):
         """Writes the head of a list and the headers of its first items."""
-        items = self.state.lists[c]
-        self._put(INDEX_PAGE + 8 * c, items[-1] - INDEX_PAGE if items else 0)
-        for index in range(len(items) - count, len(items)):
-            following = items[index - 1] - INDEX_PAGE if index else 0
-            self._put(items[index], 16 * following + 4 * c + ITEM_FREE)
+        items, origin = self.state.lists[c], self.shape.index_page  # of all item offsets
+        self._put(self.shape.head(c), items[-1] - origin if items else 0)
+        for index in range(max(0, len(items) - count), len(items)):
+            self._put(items[index], free_header(c, items[index - 1] - origin if index else 0))
 
     def _put(self, position, value):
-        self._write(position, WORD.pack(value))
+        self._write(position, self.shape.words.pack(value))
 
     def _write(self, position, content):
         if self.data[position:position + len(content)] != content:
@@ -629,15 +760,15 @@ def call_list(content):
 
 def call_list_initialise(heap, length):
     """The heap that counts from here on, and the refusal; the buffer is always the same one."""
-    if not SHORTEST <= length <= 65536:
+    if not WIDE.shortest <= length <= 65536:
         return heap, BAD_LENGTH
-    if heap.data[:8] == MAGIC:
+    if heap.data.startswith(WIDE.magic):
         return heap, ALREADY
     fresh = Heap(heap.data[:length])
     return fresh, fresh.initialise()[0]
 
 
-# The call-list example of 01, and what it prints.
+# The call-list example of 01, and what it prints; the program knows the console's heap alone.
 EXAMPLE = bytes.fromhex("00 10270000 01 2c010000 01 10000000 03 40010000 03 40010000 04")
 EXAMPLE_LINES = ["0 0 0", "1 0 320", "2 0 648", "3 0 0", "4 5 0", "5 0 5568 2 5248 0 1 1"]
 
@@ -652,7 +783,8 @@ def example_calls():
 
 
 OPENED = ("initialise", 0, 0)
-# 300 and 16 on a fresh heap, as in 01, and then 13: what (iv) is told of
+
+# The console's. 300 and 16 on a fresh heap, as in 01, and then 13: what (iv) is told of
 REMARK = [OPENED, ("allocate", 300, 0, 320), ("allocate", 16, 0, 648), ("allocate", 13, 0, 672)]
 # what stands in its 16 bytes; the last three are stale
 STALE = [("put", 672, 0x2222222222222222, 0, 0), ("put", 680, 0x3333333333333333, 0, 0)]
@@ -661,10 +793,24 @@ STALE = [("put", 672, 0x2222222222222222, 0, 0), ("put", 680, 0x3333333333333333
 TWO_PAGES = [OPENED] + [("allocate", 128, 0, a) for a in (*range(328, 4409, 136), *range(4560, 4833, 136))] + [
     ("free", a, 0, 0) for a in range(328, 4273, 136)]
 
-# Figures of 01 and 02 that are run, on this program and, by compare.py, on the library: the length of a buffer of
-# zeros; calls, and words put by hand, with their refusals and addresses; words by the positions where they then stand;
-# and, of this program alone, how many bytes a look-up then shows, by the address.
-FIGURES = {
+# The hand unit's. Two items of class 0
+HAND_ITEMS = [OPENED, ("allocate", 1, 0, 104), ("allocate", 8, 0, 116)]
+
+# 300, 16 and 13; and what stands in the 16 bytes of the last
+HAND_REMARK = [OPENED, ("allocate", 300, 0, 100), ("allocate", 16, 0, 416), ("allocate", 13, 0, 436)]
+HAND_STALE = [("put", p, value, 0, 0) for p, value in zip(range(436, 452, 4), 2 * [0x22222222] + 2 * [0x33333333])]
+
+# 300 and 16, and the first is freed again: a hole of 312 bytes; and a block of 608
+HAND_HOLE = HAND_REMARK[:3] + [("free", 100, 0, 0)]
+HAND_BLOCK = [OPENED, ("allocate", 600, 0, 100)]
+
+# Class 0: of two pages the first records are freed, and of a third the only one
+HAND_PAGES = [OPENED] + [("allocate", 1, 0, a) for a in (104, 116, 136, 148, 168)] + [("free", a, 0, 0) for a in (104, 136, 168)]
+
+# Figures of 01 and 02 that are run, on this program and, by compare.py, on the library of the shape: the length of a
+# buffer of zeros; calls, and words put by hand, with their refusals and addresses; words by the positions where they
+# then stand; and, of this program alone, how many bytes a look-up then shows, by the address.
+FIGURES = {WIDE: {
     "block-of-280": (10000, [OPENED, ("allocate", 257, 0, 320)], {312: 282}, {320: 264}),
     "page-at-312": (10000, [OPENED, ("allocate", 16, 0, 328), ("free", 48, 5, 0), ("free", 320, 5, 0)],
                     {312: 4123}, {320: 0, 328: 16}),
@@ -707,16 +853,65 @@ FIGURES = {
                        {320: 9672, 4560: 0}),
     "sweep-of-no-heap": (10000, [("sweep", 2, 0)], {}, {}),
     "sweep-of-a-damaged-heap": (10000, TWO_PAGES + [("put", 312, 4227, 3, 0), ("sweep", 3, 0)], {}, {}),
-}
+}, HAND: {
+    "too-short": (111, [("initialise", 1, 0), ("check", 1, 0)], {}, {}),
+    "shortest": (112, [OPENED, ("allocate", 1, 6, 0)],
+                 {8: 96, 12: 28, 16: 96, 20: 112, 24: 75, 92: 75, 96: 16, 100: 0, 104: 0, 108: 16}, {}),
+    "one-item": (128, [OPENED, ("allocate", 1, 0, 104)],
+                 {16: 0, 28: 84, 96: 35, 100: 131, 112: 1, 124: 35}, {104: 1, 116: 0}),
+    "two-items": (128, HAND_ITEMS + [("allocate", 8, 6, 0)], {28: 0, 112: 1027}, {104: 1, 116: 8}),
+    "largest-item": (1000, [OPENED, ("allocate", 128, 0, 104)],
+                     {16: 368, 88: 204, 96: 275, 100: 16447, 232: 61, 364: 275, 368: 632}, {104: 128}),
+    "block-of-144": (1000, [OPENED, ("allocate", 129, 0, 100), ("allocate", 65537, 4, 0), ("allocate", 65536, 6, 0)],
+                     {16: 240, 96: 146, 236: 146, 240: 760, 996: 760}, {100: 136}),
+    "longest": (65536, [OPENED, ("allocate", 65440, 6, 0), ("allocate", 65432, 0, 100)],
+                {16: 0, 20: 65536, 96: 65442, 65532: 65442}, {100: 65432}),
+    "too-long": (65537, [("initialise", 1, 0), ("check", 1, 0)], {}, {}),
+    "next-at-a-multiple-of-8": (1000, HAND_ITEMS + [("free", 104, 0, 0), ("free", 116, 0, 0)], {28: 84, 100: 1, 112: 1153}, {}),
+    "next-at-a-multiple-of-4": (1000, HAND_ITEMS + [("free", 116, 0, 0), ("free", 104, 0, 0)], {28: 72, 100: 1345, 112: 1}, {}),
+    "next-at-half-a-word": (1000, [OPENED, ("allocate", 1, 0, 104), ("put", 112, 33, 3, 0), ("put", 112, 65, 3, 0),
+                                   ("put", 112, 1, 0, 0)], {}, {}),
+    "class-16": (1000, [OPENED, ("allocate", 5, 0, 104), ("put", 100, 643 + 64, 3, 0), ("free", 104, 3, 0),
+                        ("put", 100, 3 + 64, 3, 0), ("put", 100, 3, 0, 0)], {}, {104: 8}),
+    "rest-of-16": (1000, HAND_HOLE + [("allocate", 288, 0, 100)], {16: 392, 96: 298, 392: 16, 396: 456, 400: 0, 404: 16}, {}),
+    "rest-of-8": (1000, HAND_HOLE + [("allocate", 289, 0, 100)], {16: 456, 96: 314, 404: 314}, {100: 304}),
+    "hole": (1000, HAND_HOLE + [("free", 100, 5, 0), ("free", 412, 5, 0), ("free", 28, 5, 0)],
+             {16: 96, 32: 404, 96: 312, 100: 456, 408: 51, 412: 2055, 432: 5, 456: 544}, {416: 16}),
+    "shrunk-by-8": (1000, HAND_BLOCK + [("resize", 100, 592, 0, 100)], {16: 704, 96: 610, 704: 296}, {100: 600}),
+    "shrunk-by-16": (1000, HAND_BLOCK + [("resize", 100, 584, 0, 100)], {16: 688, 96: 594, 688: 312}, {100: 584}),
+    "grown": (1000, HAND_BLOCK + [("resize", 100, 700, 0, 100)], {16: 808, 96: 714, 808: 192}, {100: 704}),
+    "grown-over-8": (1000, HAND_BLOCK + [("resize_in_place", 100, 888, 0, 100)], {16: 0, 96: 906, 996: 906}, {100: 896}),
+    "smaller-size": (500, [OPENED, ("allocate", 380, 0, 100), ("resize", 100, 20, 0, 100), ("resize", 100, 392, 0, 100),
+                           ("resize", 100, 393, 6, 0), ("resize_in_place", 100, 20, 6, 0), ("move", 100, 20, 6, 0)],
+                     {16: 0, 20: 496, 96: 402, 492: 402}, {100: 392}),
+    "block-moved": (1000, HAND_REMARK[:2] + [("resize_in_place", 100, 128, 6, 0), ("resize_in_place", 100, 129, 0, 100),
+                                             ("move", 100, 129, 0, 244)],
+                    {16: 96, 96: 144, 100: 384, 240: 146, 384: 616}, {244: 136}),
+    "size-kept": (1000, HAND_REMARK, {412: 2055, 432: 1671}, {100: 304, 416: 16, 436: 13}),
+    "size-in-place": (1000, HAND_REMARK + [("resize_in_place", 436, 9, 0, 436), ("resize_in_place", 436, 8, 6, 0)],
+                      {432: 1159}, {436: 9}),
+    "size-moved": (1000, HAND_REMARK + HAND_STALE + [("move", 436, 16, 0, 464)],
+                   {32: 404, 432: 7237, 460: 2055, 464: 0x22222222, 468: 0x22222222, 472: 0x33333333, 476: 0x33, 480: 5},
+                   {436: 0, 464: 16}),
+    "older-item-moved": (1000, HAND_REMARK + HAND_STALE + [("put", 432, 7, 0, 0), ("move", 436, 16, 0, 464)],
+                         {460: 2055, 472: 0x33333333, 476: 0x33333333}, {464: 16}),
+    "size-of-8": (1000, HAND_REMARK + [("put", 432, 128 * 8 + 7, 3, 0), ("put", 432, 128 * 17 + 7, 3, 0)], {}, {436: 0}),
+    "page-given-back": (1000, HAND_PAGES + [("sweep", 0, 1), ("sweep", 0, 0)],
+                        {16: 160, 28: 72, 100: 1665, 132: 1, 160: 840, 188: 35, 996: 840}, {104: 0, 116: 1, 148: 1}),
+    "lower-page-first": (1000, HAND_PAGES + [("sweep", 0, 1)] + [("allocate", 1, 0, a) for a in (104, 136, 168)], {}, {}),
+    "sweep-of-no-heap": (1000, [("sweep", 2, 0)], {}, {}),
+    "sweep-of-a-damaged-heap": (1000, HAND_PAGES + [("put", 160, 43, 3, 0), ("sweep", 3, 0)], {}, {}),
+    "first-bytes-of-the-console": (1000, [OPENED, ("put", 4, 0x01636f6c, 2, 0), ("free", 100, 2, 0), OPENED], {4: 0x02636f6c}, {}),
+}}
 
 
 def played(figure, heap, do):
     """What each step of a figure answers, each word is then and each look-up shows, beside what 01 and 02 say."""
-    _, steps, words, shown = FIGURES[figure]
+    _, steps, words, shown = FIGURES[heap.shape][figure]
     for name, *numbers, refusal, address in steps:
         yield do(name, *numbers), (refusal, address)
     for position, value in words.items():
-        yield word_at(heap.data, position), value
+        yield heap.word_at(position), value
     for address, length in shown.items():
         yield len(heap.look_up(address)[1]), length
 
@@ -731,59 +926,83 @@ class SelfTest:
         self.count += 1
         assert got == wanted, f"figure {self.count}: {got} instead of {wanted}"
 
-    def fresh(self, length):
-        heap = Heap(bytearray(length))
+    def fresh(self, length, shape=WIDE):
+        heap = Heap(bytearray(length), shape)
         self.same(heap.initialise(), (GRANTED, 0))
         return heap
 
     def blocks(self, heap):
-        """All blocks as a walk from 312 shows them."""
-        position, seen = DATA_AREA, []
+        """All blocks as a walk from the data area shows them."""
+        position, seen = heap.shape.data_area, []
         while True:
             refusal, answer, position = heap.step(position)
-            assert refusal == GRANTED and sound(heap.data)
+            assert refusal == GRANTED == Heap(heap.data, heap.shape).verdict
             if answer == END_OF_WALK:
                 return seen
             seen.append(answer)
+
+    def shapes(self):
+        """What follows from the few numbers of a shape is what the documents tell."""
+        for shape, index_page, data_area, tag, free, variable, spare, shortest in (
+                (WIDE, 48, 312, 275, 32, 280, (0, 8, 16, 24), 344), (HAND, 28, 96, 75, 16, 144, (0, 8), 112)):
+            self.same((shape.index_page, shape.data_area), (index_page, data_area))
+            self.same([*shape.fixed_words(1000).values()], [data_area, index_page, 1000, tag, tag])
+            self.same((shape.smallest_free, shape.smallest_variable, tuple(shape.spare)), (free, variable, spare))
+            self.same((shape.shortest, shape.largest_size), (shortest, shape.longest))
+        self.same([*WIDE.fixed_words(0)], [8, 16, 32, 40, 304])
+        self.same([*HAND.fixed_words(0)], [8, 12, 20, 24, 92])
+        self.same([WIDE.items_in_page(c) for c in (0, 1, 15, 31)], [257, 171, 31, 16])
+        self.same([(HAND.items_in_page(c), HAND.item_size(c)) for c in (0, 15)], [(2, 12), (2, 132)])
+        self.same((HAND.smallest_page, HAND.largest_item, WIDE.largest_item), (32, 128, 256))
 
     def short_heaps(self):
         self.same(Heap(bytearray(343)).initialise(), (BAD_LENGTH, 0))
         heap = self.fresh(344)
         self.same(self.blocks(heap), [("free", 312, 32, 0, 0)])
         self.same(heap.allocate(1), (NO_ROOM, 0))
-        self.same(word_at(self.fresh(351).data, STORED_END), 344)
-        for size, length in ((256, 4552), (1, 4440)):
-            self.same(self.fresh(length).allocate(size)[0], GRANTED)
-            self.same(self.fresh(length - 1).allocate(size), (NO_ROOM, 0))
+        self.same(self.blocks(self.fresh(112, HAND)), [("free", 96, 16, 0, 0)])
+        self.same(self.fresh(351).word_at(32), 344)
+        for shape, size, length in ((WIDE, 256, 4552), (WIDE, 1, 4440), (HAND, 128, 368), (HAND, 1, 128)):
+            self.same(self.fresh(length, shape).allocate(size)[0], GRANTED)
+            self.same(self.fresh(length - 1, shape).allocate(size), (NO_ROOM, 0))
 
     def heap_with_two(self):
         """H, allocate 300, allocate 16."""
         heap = self.fresh(10000)
         self.same(self.blocks(heap), [("free", 312, 9688, 0, 0)])
         self.same(heap.allocate(300), (GRANTED, 320))
-        self.same(word_at(heap.data, 312), 322)
+        self.same(heap.word_at(312), 322)
         self.same(self.blocks(heap)[1], ("free", 632, 9368, 0, 0))
         self.same(heap.allocate(16), (GRANTED, 648))
         self.same(self.blocks(heap)[1:], [("page", 632, 4120, 1), ("free", 4752, 5248, 0, 0)])
-        for position, value in ((632, 4123), (640, 2055), (INDEX_PAGE + 8, 616), (664, 10245)):
-            self.same(word_at(heap.data, position), value)
+        for position, value in ((632, 4123), (640, 2055), (56, 616), (664, 10245)):
+            self.same(heap.word_at(position), value)
+        return heap
+
+    def hand_heap_with_two(self):
+        """The same two on a hand unit's heap of 1,000 bytes."""
+        heap = self.fresh(1000, HAND)
+        self.same(self.blocks(heap), [("free", 96, 904, 0, 0)])
+        self.same((heap.allocate(300), heap.allocate(16)), ((GRANTED, 100), (GRANTED, 416)))
+        self.same(self.blocks(heap), [("variable", 96, 312), ("page", 408, 48, 1), ("free", 456, 544, 0, 0)])
+        self.same(heap.statistics(), (GRANTED, (544, 1, 544, 1, 1, 1), [[0, 0, 0], [1, 1, 1]] + 14 * [[0, 0, 0]]))
         return heap
 
     def blocks_in_a_hole(self):
         for size, rest in ((264, ("free", 592, 40, 4752, 0)), (272, ("free", 600, 32, 4752, 0)), (273, None)):
             heap = self.heap_with_two()
             self.same(heap.free(320), (GRANTED, 0))
-            self.same((word_at(heap.data, FIRST_FREE), word_at(heap.data, 320)), (312, 4752))
+            self.same((heap.word_at(24), heap.word_at(320)), (312, 4752))
             self.same(heap.allocate(size), (GRANTED, 320))
             if rest:
                 self.same(self.blocks(heap)[1], rest)
             else:
-                self.same(word_at(heap.data, 312), 322)
+                self.same(heap.word_at(312), 322)
 
     def item_freed_twice(self):
         heap = self.heap_with_two()
         self.same(heap.free(648), (GRANTED, 0))
-        self.same((word_at(heap.data, 640), word_at(heap.data, INDEX_PAGE + 8)), (9861, 592))
+        self.same((heap.word_at(640), heap.word_at(56)), (9861, 592))
         self.same(heap.free(648), (BAD_ADDRESS, 0))
 
     def resizes(self):
@@ -806,9 +1025,9 @@ class SelfTest:
         self.same(heap.move(648, 10000), (NO_ROOM, 0))
         self.same(bytes(heap.data), before)
 
-    def resized_in_two(self, data, address, size):
+    def resized_in_two(self, heap, address, size):
         """What the callers of resize do since (vii): in place, else by a move, else as it is; and the bytes then."""
-        heap = Heap(bytearray(data))
+        heap = Heap(bytearray(heap.data), heap.shape)
         answer = heap.resize_in_place(address, size)
         if answer[0] == NO_ROOM:
             answer = heap.move(address, size)
@@ -816,20 +1035,24 @@ class SelfTest:
             answer = GRANTED, address
         return answer, heap.data
 
-    def resized_at_once(self, data, address, size):
-        heap = Heap(bytearray(data))
+    def resized_at_once(self, heap, address, size):
+        heap = Heap(bytearray(heap.data), heap.shape)
         return heap.resize(address, size), heap.data
 
     def resizes_in_two(self):
-        """The two ways agree for every size that matters, on a heap with room and on one with little."""
-        roomy, older, tight = self.heap_with_two(), self.heap_with_two(), self.fresh(1000)
-        self.same(older.put(640, 7), (GRANTED, 0))
-        self.same(tight.allocate(300), (GRANTED, 320))
-        sizes = (*range(700), 5240, LARGEST_SIZE, LARGEST_SIZE + 1)
-        for heap, address in ((roomy, 320), (roomy, 648), (roomy, 656), (older, 648), (tight, 320)):
-            differing = [size for size in sizes if self.resized_in_two(heap.data, address, size)
-                         != self.resized_at_once(heap.data, address, size)]
-            self.same(differing, [])
+        """The two ways agree for every size that matters, on a heap with room, one with an older item, and one with little room."""
+        for with_two, first, second, tight_length in (
+                (self.heap_with_two, 320, 648, 1000), (self.hand_heap_with_two, 100, 416, 410)):
+            roomy, older = with_two(), with_two()
+            shape = roomy.shape
+            tight = self.fresh(tight_length, shape)
+            self.same(older.put(second - shape.word, used_header(class_of(16), 0)), (GRANTED, 0))
+            self.same(tight.allocate(300), (GRANTED, first))
+            sizes = (*range(700), 5240, shape.largest_size, shape.largest_size + 1)
+            for heap, address in ((roomy, first), (roomy, second), (roomy, second + 8), (older, second), (tight, first)):
+                differing = [size for size in sizes if self.resized_in_two(heap, address, size)
+                             != self.resized_at_once(heap, address, size)]
+                self.same(differing, [])
 
     def sweeps(self):
         """Five pages of class 31: those with most live items are used up first, the lower of two equal ones before the other."""
@@ -846,18 +1069,19 @@ class SelfTest:
         self.same([heap.allocate(256)[1] for _ in wanted], wanted)
 
     def figures(self):
-        """Those that are run on the library too; answers the heaps that they leave."""
+        """Those that are run on the libraries too; answers the heaps that they leave."""
         heaps = {}
-        for figure, (length, *_) in FIGURES.items():
-            heap = heaps[figure] = Heap(bytearray(length))
-            for got, wanted in played(figure, heap, lambda name, *numbers: getattr(heap, name)(*numbers)):
-                self.same(got, wanted)
+        for shape, figures in FIGURES.items():
+            for figure, (length, *_) in figures.items():
+                heap = heaps[shape, figure] = Heap(bytearray(length), shape)
+                for got, wanted in played(figure, heap, lambda name, *numbers: getattr(heap, name)(*numbers)):
+                    self.same(got, wanted)
         return heaps
 
     def reading(self):
         heaps = self.figures()
-        self.same(self.blocks(heaps["block-of-280"])[0], ("variable", 312, 280))
-        heap = heaps["page-at-312"]
+        self.same(self.blocks(heaps[WIDE, "block-of-280"])[0], ("variable", 312, 280))
+        heap = heaps[WIDE, "page-at-312"]
         self.same(heap.statistics()[2][1], [1, 1, 170])
         self.same(heap.initialise(), (ALREADY, 0))
 
@@ -866,6 +1090,7 @@ class SelfTest:
         self.same(call_list(b"\x04\x09"), ["0 2 0 0 0 0 0 0", "stop"])
 
     def run(self):
+        self.shapes()
         self.short_heaps()
         self.heap_with_two()
         self.blocks_in_a_hole()

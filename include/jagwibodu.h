@@ -20,14 +20,11 @@
 #ifndef JAGWIBODU_H
 #define JAGWIBODU_H
 
-#include <stddef.h>
-#include <stdint.h>
+#include "jagwibodu_answer.h"
 
 #ifdef __cplusplus
 extern "C" {
 #endif
-
-#define JAGWIBODU_VERSION "1.4"
 
 /* The lengths that a buffer may have; the largest size that can be asked for is the latter too. */
 #define JAGWIBODU_SHORTEST 344
@@ -35,46 +32,6 @@ extern "C" {
 
 /* No call uses more bytes of stack; the tests measure it. */
 #define JAGWIBODU_STACK 22528
-
-enum jagwibodu_refusal {
-    JAGWIBODU_GRANTED = 0,
-    JAGWIBODU_BAD_LENGTH = 1,    /* the buffer is shorter than 344 or longer than 1,048,576 bytes */
-    JAGWIBODU_NOT_OPENED = 2,    /* its first 8 bytes are not a heap's */
-    JAGWIBODU_NOT_SOUND = 3,     /* the heap is damaged */
-    JAGWIBODU_BAD_SIZE = 4,      /* the size is 0 or above 1,048,576 */
-    JAGWIBODU_NOT_LIVE = 5,      /* no record is live at the address */
-    JAGWIBODU_NO_ROOM = 6,       /* no item and no block is free for it; of a resize in place: it cannot stay */
-    JAGWIBODU_ALREADY_OPENED = 7 /* initialise, and the buffer holds a heap */
-};
-
-/* The two parts of an answer; of a sweep's the second is JAGWIBODU_PAGES. */
-#define JAGWIBODU_REFUSAL(answer) ((enum jagwibodu_refusal)((answer) >> 32))
-#define JAGWIBODU_ADDRESS(answer) ((size_t)((answer) & 0xffffffffu))
-#define JAGWIBODU_PAGES(answer) ((size_t)((answer) & 0xffffffffu))
-
-/* A refusal in words. */
-static inline const char *jagwibodu_refusal_name(enum jagwibodu_refusal refusal)
-{
-    switch (refusal) {
-    case JAGWIBODU_GRANTED:
-        return "granted";
-    case JAGWIBODU_BAD_LENGTH:
-        return "bad length";
-    case JAGWIBODU_NOT_OPENED:
-        return "not opened";
-    case JAGWIBODU_NOT_SOUND:
-        return "not sound";
-    case JAGWIBODU_BAD_SIZE:
-        return "bad size";
-    case JAGWIBODU_NOT_LIVE:
-        return "not live";
-    case JAGWIBODU_NO_ROOM:
-        return "no room";
-    case JAGWIBODU_ALREADY_OPENED:
-        return "already opened";
-    }
-    return "unknown refusal";
-}
 
 /* Opens a heap in a buffer that holds none: 0, or refused with 1 or 7. */
 uint64_t jagwibodu_initialise(uint8_t *buffer, size_t length);
