@@ -94,6 +94,7 @@ SHARES = {
     # A page of two items that is on a list after a sweep has one in use, so none of them is fuller than another.
     HAND: COMMON_SHARES | {
         "resize: an older item is kept": 8000,  # pages are so short that there is nearly always room for one
+        "sweep: 0, and lists change": 2000,  # two items of a page are seldom in another order than a sweep's
     },
 }
 

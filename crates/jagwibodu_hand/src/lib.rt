@@ -2,60 +2,60 @@
 ghost use Rattle.model.specs.Shape.{hand};
 ghost use Rattle.model.specs.Calls.{Initialises, Checks, Allocates, Frees, ResizesInPlace, Moves, Resizes, Sweeps};
 ghost use Rattle.numbering.specs.Numbers.{Numbered};
-use hand::WORD;
+use model::HAND;
 
 #[no_mangle]
 pub extern "C" fn jagwibodu_hand_initialise(h: &mut [u8]) -> u64
     ensures { λ r. ⌜ Numbered (Initialises hand (now (h .entry))) r (now (h .exit)) ⌝ }
 {
-    numbering::initialise(WORD, h)
+    numbering::initialise(HAND, h)
 }
 
 #[no_mangle]
 pub extern "C" fn jagwibodu_hand_check(h: &[u8]) -> u64
     ensures { λ r. ⌜ Numbered (Checks hand (now (h .entry))) r (now (h .entry)) ⌝ }
 {
-    numbering::check(WORD, h)
+    numbering::check(HAND, h)
 }
 
 #[no_mangle]
 pub extern "C" fn jagwibodu_hand_allocate(h: &mut [u8], size: u64) -> u64
     ensures { λ r. ⌜ Numbered (Allocates hand (now (h .entry)) size) r (now (h .exit)) ⌝ }
 {
-    numbering::allocate(WORD, h, size)
+    numbering::allocate(HAND, h, size)
 }
 
 #[no_mangle]
 pub extern "C" fn jagwibodu_hand_free(h: &mut [u8], address: u64) -> u64
     ensures { λ r. ⌜ Numbered (Frees hand (now (h .entry)) address) r (now (h .exit)) ⌝ }
 {
-    numbering::free(WORD, h, address)
+    numbering::free(HAND, h, address)
 }
 
 #[no_mangle]
 pub extern "C" fn jagwibodu_hand_resize_in_place(h: &mut [u8], address: u64, size: u64) -> u64
     ensures { λ r. ⌜ Numbered (ResizesInPlace hand (now (h .entry)) address size) r (now (h .exit)) ⌝ }
 {
-    numbering::resize_in_place(WORD, h, address, size)
+    numbering::resize_in_place(HAND, h, address, size)
 }
 
 #[no_mangle]
 pub extern "C" fn jagwibodu_hand_move(h: &mut [u8], address: u64, size: u64) -> u64
     ensures { λ r. ⌜ Numbered (Moves hand (now (h .entry)) address size) r (now (h .exit)) ⌝ }
 {
-    numbering::relocate(WORD, h, address, size)
+    numbering::relocate(HAND, h, address, size)
 }
 
 #[no_mangle]
 pub extern "C" fn jagwibodu_hand_resize(h: &mut [u8], address: u64, size: u64) -> u64
     ensures { λ r. ⌜ Numbered (Resizes hand (now (h .entry)) address size) r (now (h .exit)) ⌝ }
 {
-    numbering::resize(WORD, h, address, size)
+    numbering::resize(HAND, h, address, size)
 }
 
 #[no_mangle]
 pub extern "C" fn jagwibodu_hand_sweep(h: &mut [u8]) -> u64
     ensures { λ r. ⌜ Numbered (Sweeps hand (now (h .entry))) r (now (h .exit)) ⌝ }
 {
-    numbering::sweep(WORD, h)
+    numbering::sweep(HAND, h)
 }

@@ -75,13 +75,18 @@ pub const NO_ROOM: u64 = 6;
 
 pub const ALREADY_OPENED: u64 = 7;
 
+// The bytes of a word of document 01's heap, and of the hand unit's: what every function takes as w.
+pub const WIDE: usize = 8;
+
+pub const HAND: usize = 4;
+
 // A heap of either width begins with eight bytes; as one word of eight bytes they are its magic number.
 pub const MAGIC_BYTES: usize = 8;
 
 pub fn magic(w: usize) -> usize
     ensures { λ r. ⌜ r ≡ shape w .magic ⌝ }
 {
-    if w == 8 {
+    if w == WIDE {
         0x01636f6c6c617978
     } else {
         0x02636f6c6c617978
@@ -102,7 +107,7 @@ pub const MOST_BYTES: usize = 1048576;
 pub fn longest(w: usize) -> usize
     ensures { λ r. ⌜ r ≡ shape w .most ⌝ }
 {
-    if w == 8 { MOST_BYTES } else { 65536 }
+    if w == WIDE { MOST_BYTES } else { 65536 }
 }
 
 // How many pages a table has entries for: an array's length is a constant. Every heap has fewer than the last has; at 8 bytes a word the second is enough too.
@@ -117,7 +122,7 @@ pub fn paged_bytes(w: usize, n: usize) -> usize
     requires { ⌜ n < 2 ^ 32 ⌝ }
     ensures { λ r. ⌜ r ≡ n * leastPage w ⌝ }
 {
-    if w == 8 { n * 4096 } else { n * 32 }
+    if w == WIDE { n * 4096 } else { n * 32 }
 }
 
 // The end of a heap of n bytes.
@@ -367,7 +372,7 @@ pub fn items_in_page(w: usize, c: usize) -> usize
     requires { ⌜ Width w × (c < shape w .classes) ⌝ }
     ensures { λ r. ⌜ r ≡ shape w .perPage c ⌝ }
 {
-    if w == 8 { PAGE_ITEMS[c] as usize } else { 2 }
+    if w == WIDE { PAGE_ITEMS[c] as usize } else { 2 }
 }
 
 // The least size of a page of class c, of the n items that the table says: who needs both reads the table once.

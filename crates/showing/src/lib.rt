@@ -17,8 +17,10 @@ use examining::Refusal;
 use examining::Verdict;
 use examining::examine;
 use examining::refusal_number;
+use model::HAND;
 use model::MAGIC_BYTES;
 use model::MOST_BYTES;
+use model::WIDE;
 use model::magic;
 use words::word;
 ghost use mathlib.Core.Path.{_≡_};
@@ -34,12 +36,12 @@ pub fn word_size(h: &[u8]) -> usize
     ensures { λ r. ⌜ Width r × (Opened hand (now (h .entry)) → r ≡ hand .word) × ((Opened hand (now (h .entry)) → ⊥) → r ≡ wide .word) ⌝ }
 {
     if h.len() < MAGIC_BYTES {
-        return heap::WORD;
+        return WIDE;
     }
-    if word(MAGIC_BYTES, h, 0) == magic(hand::WORD) {
-        return hand::WORD;
+    if word(MAGIC_BYTES, h, 0) == magic(HAND) {
+        return HAND;
     }
-    heap::WORD
+    WIDE
 }
 
 // A refusal in words.
@@ -57,7 +59,7 @@ fn write_name(k: Refusal) {
 
 // Whose heap it is, where it is not the console's.
 fn write_unit(w: usize) {
-    if w == hand::WORD {
+    if w == HAND {
         write(b"hand unit\n");
     }
 }
