@@ -111,6 +111,7 @@ handTable =
     -- then sweep: 1, and one free block of 32 at 96
     ∷ figure 128 (allocating 1 ∷ allocating 8 ∷ freeing 116 ∷ freeing 104 ∷ sweeping ∷ []) (says 0 0 ∷ says 0 104 ∷ says 0 116 ∷ says 0 0 ∷ says 0 0 ∷ says 0 1 ∷ []) (word 16 96 ∷ word 96 32 ∷ word 28 0 ∷ [])
     -- N 128, allocate 5: header 643; in place to 8: header 1,027; move to 8 instead: address 116, and the first item, free again, heads its list
+    ∷ figure 128 (allocating 5 ∷ []) (says 0 0 ∷ says 0 104 ∷ []) (word 100 643 ∷ [])
     ∷ figure 128 (allocating 5 ∷ resizingBy staying 104 8 ∷ []) (says 0 0 ∷ says 0 104 ∷ says 0 104 ∷ []) (word 100 1027 ∷ word 28 84 ∷ [])
     ∷ figure 128 (allocating 5 ∷ resizingBy moving 104 8 ∷ []) (says 0 0 ∷ says 0 104 ∷ says 0 116 ∷ []) (word 100 1 ∷ word 112 1027 ∷ word 28 72 ∷ [])
     -- N 1,000, allocate 129: address 100, tag 146, rest at 240, size 760; allocate 65,537: 4
