@@ -4,7 +4,7 @@
 N ?= 100000
 DAMAGED ?= 5000
 ASKED ?= 2000
-SHOWN ?= 200
+SHOWN ?= 400
 SEED ?= 1
 # install: where to.
 PREFIX ?= /usr/local
@@ -85,11 +85,12 @@ files:
 
 # The example hosts in C, built with what install gives; the console's on a heap with room, and on one in which most is refused; the
 # ward's remark, shortened on a full heap; the form editor, that asks before a record moves; the morning's start-up, of which `show`,
-# and the second program too, tell what a sweep gave back; and the handset that takes over the console's records, told by `show` too.
+# and the second program too, tell what a sweep gave back; the handset that takes over the console's records, told by `show` too; and
+# the upgrade, on a heap from before classes were closed, of which both tell how an old page leaves.
 # The pkg-config files lead to headers and archives, and all are C++ too.
 INSTALLED = target/installed
 EXAMPLES = console remark editor morning handset
-TOLD = morning-before morning-after handset-heap
+TOLD = morning-before morning-after handset-heap upgrade-old upgrade-before upgrade-after
 example: lib
 	$(if $(BUILT),,rt check show)
 	$(MAKE) --no-print-directory files PREFIX=$(INSTALLED)
@@ -98,9 +99,13 @@ example: lib
 	diff examples/console-small.out target/console-small.out
 	CFLAGS='-I$(INSTALLED)/include' tools/chost examples/morning.c $(INSTALLED)/lib/libjagwibodu.a -- target/morning-before.heap target/morning-after.heap > target/morning.out
 	CFLAGS='-I$(INSTALLED)/include' tools/chost examples/handset.c $(LIBRARIES:%=$(INSTALLED)/lib/lib%.a) -- target/handset-heap.heap > target/handset.out
+	python3 compare/former.py target/upgrade-old.heap
+	CFLAGS='-I$(INSTALLED)/include' tools/chost examples/upgrade.c $(INSTALLED)/lib/libjagwibodu.a -- target/upgrade-old.heap target/upgrade-before.heap target/upgrade-after.heap > target/upgrade.out
+	diff examples/upgrade.out target/upgrade.out
+	cat target/upgrade.out
 	for heap in $(TOLD); do tools/chost -r target/bin/show < target/$$heap.heap | diff examples/$$heap.out - && python3 compare/report.py target/$$heap.heap | diff examples/$$heap.out - || exit 1; done
 	if command -v pkg-config > /dev/null; then for name in $(LIBRARIES); do PKG_CONFIG_PATH=$(INSTALLED)/lib/pkgconfig pkg-config --cflags --libs $$name | grep -q "^-I$(abspath $(INSTALLED))/include -L$(abspath $(INSTALLED))/lib -l$$name *\$$" || exit 1; done; fi
-	if command -v c++ > /dev/null; then c++ -std=c++11 -Wall -Wextra -Werror -fsyntax-only -x c++ -I$(INSTALLED)/include $(EXAMPLES:%=examples/%.c); fi
+	if command -v c++ > /dev/null; then c++ -std=c++11 -Wall -Wextra -Werror -fsyntax-only -x c++ -I$(INSTALLED)/include $(wildcard examples/*.c); fi
 
 # The figures that are run, long random runs and damaged heaps, and the stack: the library against the second program.
 compare: lib

@@ -23,7 +23,7 @@ import sys
 ROOT = os.path.dirname(os.path.dirname(os.path.abspath(__file__)))
 sys.path.insert(0, os.path.join(ROOT, "compare"))
 sys.dont_write_bytecode = True  # products belong below target/
-from second import GRANTED, HAND, NO_ROOM, SHAPES, VARIABLE, WIDE, Heap  # noqa: E402
+from second import BEFORE, GRANTED, HAND, NO_ROOM, SHAPES, VARIABLE, WIDE, Heap  # noqa: E402
 
 PRODUCTS = os.path.join(ROOT, "target", "bench")
 CALLS = ("initialise", "check", "allocate", "resize", "resize_in_place", "move", "free", "sweep")
@@ -31,7 +31,7 @@ SIZES = {WIDE: (10000, 65536, 1048576), HAND: (1000, 10000, 65536)}
 OWN_PREFIX = {WIDE: "jagwibodu_", HAND: "jagwibodu_hand_"}
 HEADING = {WIDE: "heap", HAND: "hand unit's heap, 64-bit code"}
 MOVES, KEPT, CANNOT_STAY, FULL = "it moves", "it is kept for want of room", "it cannot stay", "there is no room"
-OLDER = "full of older items"
+OLDER, CLOSED = "full of older items", "pages of closed classes"
 LIMIT, SWEEP_TWIN_LIMIT = 1.05, 1.25  # no call may take more instructions than so many times the twin's; and no sweep
 # The hand unit's heaps are short: the map that a check clears, and the table that a sweep clears, are not lost in what they then take.
 CLEARED = {WIDE: (0, 0), HAND: (430, 1900)}  # so many instructions more are let pass for each check, and for a sweep
@@ -105,21 +105,33 @@ def half_the_pages_empty(shape, length):
     return heap
 
 
-def all_classes(shape, length):
-    """A block, and then items of all classes by chance; half of them is freed."""
+def pages_of_closed_classes(shape, length):
+    """By the rule before: an item, and then a page of each closed class in turn; one is half emptied, one emptied, one left full."""
+    sizes = itertools.cycle(size for c in shape.closed for size in shape.items_in_page(c) * [8 * c + 8])
+    heap = filled(BEFORE, length, 40, lambda rng: next(sizes))
+    _, *pages = sorted(heap.state.page_class)
+    for page, freed in zip(pages, itertools.cycle((slice(None, None, 2), slice(None), slice(0)))):
+        for item in heap.state.items_of_page(page)[freed]:
+            heap.free(item + shape.word)
+    return Heap(heap.data, shape)
+
+
+def items_of_all_sizes(shape, length):
+    """A block, and then items of all sizes by chance; half of them is freed."""
     return filled(shape, length, 600, sizes_of_items(shape), 2)
 
 
 def mixed(shape, length):
-    """Items of all classes and blocks, in turn by chance; a third of them is freed."""
+    """Items of all sizes and blocks, in turn by chance; a third of them is freed."""
     sorts = sizes_of_items(shape), sizes_of_blocks(shape, length, 2000)
     return filled(shape, length, 40, lambda rng: rng.choice([size(rng) for size in sorts]), 3)
 
 
 KINDS = {"empty": fresh, "nearly empty": nearly_empty, "full of blocks": full_of_blocks, "full of items": full_of_items,
          "mixed": mixed}
-# What only the check and the sweep are measured on.
-SWEPT = {OLDER: full_of_older_items, "half the pages empty": half_the_pages_empty, "all classes": all_classes}
+# What only the check and the sweep are measured on; and, with closed classes, what the rule for these is about.
+SWEPT = {OLDER: full_of_older_items, "half the pages empty": half_the_pages_empty, CLOSED: pages_of_closed_classes,
+         "items of all sizes": items_of_all_sizes}
 
 
 def last(items):
@@ -128,13 +140,18 @@ def last(items):
 
 
 def class_with_items(state, but=None):
-    """A class whose list is not empty."""
-    return next((c for c, items in enumerate(state.lists) if items and c != but), None)
+    """A class that is handed out, and whose list is not empty."""
+    return next((c for c in range(state.shape.offered) if state.lists[c] and c != but), None)
 
 
 def empty_class(state, but=None):
     """One whose list is empty: the first, whose page is the dearest to make."""
-    return next((c for c, items in enumerate(state.lists) if not items and c != but), None)
+    return next((c for c in range(state.shape.offered) if not state.lists[c] and c != but), None)
+
+
+def closed_class_with_items(state):
+    """A class that is not handed out, and has items that wait."""
+    return next((c for c in state.shape.closed if state.lists[c]), None)
 
 
 def block_with(heap, is_right):
@@ -256,6 +273,17 @@ def moves(heap):
         yield f"move a record, {FULL}", "move", record, heap.shape.largest_size
 
 
+def closed_class_calls(heap):
+    """On pages of closed classes: what stays as it was, and what a block is made for."""
+    (item, c), waiting = last_item(heap), closed_class_with_items(heap.state)
+    if waiting is not None:
+        yield "allocate a block, items of its closed class wait", "allocate", 0, 8 * waiting + 8
+    if item:
+        yield "free an item of a closed class", "free", item, 0
+        yield "resize in place an item of a closed class, it stays", "resize_in_place", item, 8 * c + 1
+        yield "move an item within its closed class, to a block", "move", item, 8 * c + 8
+
+
 def comes_out(heap, name, call, address, size):
     """Whether the call ends as its name says."""
     trial = Heap(bytearray(heap.data), heap.shape)
@@ -269,13 +297,14 @@ def calls_on(kind, heap):
     """What is measured on a heap: (name, call, address, size), only what ends as its name says."""
     yield "check", "check", 0, 0
     yield "sweep", "sweep", 0, 0
-    for sort in () if kind in SWEPT else (allocations, frees, resizes, resizes_in_place, moves):
+    every_sort = allocations, frees, resizes, resizes_in_place, moves
+    for sort in (closed_class_calls,) if kind == CLOSED else () if kind in SWEPT else every_sort:
         yield from (row for row in sort(heap) if comes_out(heap, *row))
 
 
 def kinds(shape):
-    """The heaps that are measured. The hand unit has none from before sizes were kept."""
-    return {kind: make for kind, make in (KINDS | SWEPT).items() if shape is WIDE or kind != OLDER}
+    """The heaps that are measured. The hand unit has none from before sizes were kept, nor with closed classes."""
+    return {kind: make for kind, make in (KINDS | SWEPT).items() if shape is WIDE or kind not in (OLDER, CLOSED)}
 
 
 def let_pass(shape, name):

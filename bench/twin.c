@@ -5,11 +5,12 @@
 
 enum kind { FREE = 0, VARIABLE = 2, PAGE = 3 };
 
-/* What a word's size decides: the console's heap has words of 8 bytes, the hand unit's has words of 4. */
+/* What a word's size decides: the console's heap has words of 8 bytes, the hand unit's has words of 4. Of its classes the
+   lowest are handed out, as many as are offered; the others are closed, and older heaps may still have pages of them. */
 #if TWIN_WORD == 8
 typedef uint64_t word;
 static const uint64_t MAGIC = 0x01636f6c6c617978;
-enum { LONGEST = 1048576, CLASSES = 32, SMALLEST_PAGE = 4112, WORD_SHIFT = 3 };
+enum { LONGEST = 1048576, CLASSES = 32, OFFERED = 16, SMALLEST_PAGE = 4112, WORD_SHIFT = 3 };
 
 /* The items of a page of each class: 4,096 divided by the item's size, and one more. */
 static const uint16_t page_items[CLASSES] = {
@@ -29,7 +30,7 @@ static uint64_t items_in_page(uint64_t class)
 #elif TWIN_WORD == 4
 typedef uint32_t word;
 static const uint64_t MAGIC = 0x02636f6c6c617978;
-enum { LONGEST = 65536, CLASSES = 16, SMALLEST_PAGE = 32, WORD_SHIFT = 2 };
+enum { LONGEST = 65536, CLASSES = 16, OFFERED = 16, SMALLEST_PAGE = 32, WORD_SHIFT = 2 };
 
 static uint64_t items_in_page(uint64_t class)
 {
@@ -57,7 +58,7 @@ enum {
     INDEX_TAG = DATA_AREA - INDEX_LOW_TAG + PAGE,
     TAGS = 2 * WORD,
     LARGEST_SIZE = LONGEST,
-    LARGEST_ITEM = 8 * CLASSES,
+    LARGEST_ITEM = 8 * OFFERED, /* that is handed out */
     SMALLEST_FREE = 4 * WORD,
     SMALLEST_VARIABLE = LARGEST_ITEM + 8 + TAGS,
     SHORTEST = DATA_AREA + SMALLEST_FREE,

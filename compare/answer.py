@@ -10,7 +10,7 @@ import zlib
 
 sys.dont_write_bytecode = True
 from report import forget, granted, report, told_heap
-from second import WIDE, Heap
+from second import BEFORE, WIDE, Heap
 
 NUMBER = struct.Struct("<Q")  # in the program's input; the heap's words are the shape's
 
@@ -80,13 +80,16 @@ class Asked:
 
 
 def sample():
-    """A heap of the console with every kind of block, and with live and free items; its length is no multiple of 8."""
-    heap = Heap(bytearray(b"\x11" * 6001))
+    """A heap of the console from before, with every kind of block, and with live and free items of a class that is closed now, and
+    with a block for a size of that class, which it then got; its length is no multiple of 8."""
+    heap = Heap(bytearray(b"\x11" * 6001), BEFORE)
     heap.initialise()
     addresses = [heap.allocate(size)[1] for size in (300, 500, 280, 200, 199, 198, 197)]
     heap.free(addresses[1])
     heap.free(addresses[4])
     forget(heap, addresses[5])
+    heap = Heap(heap.data)
+    heap.allocate(200)
     return heap.data
 
 

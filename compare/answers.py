@@ -55,13 +55,21 @@ def positions(rng, state, length):
             "beyond the end": [state.end, state.end + 8, length + rng.randrange(2**20), rng.choice(HUGE)]}
 
 
+def of_closed_classes(state):
+    """The addresses of all items of closed classes, in use and free."""
+    return {item + state.shape.word for page, c in state.page_class.items() if c in state.shape.closed
+            for item in state.items_of_page(page)}
+
+
 def ask_places(rng, asked, state, tally):
     """Look-ups and single steps, at places of every kind."""
     unit, refused = asked.heap.shape.name, " in a refused heap" * (asked.heap.verdict != 0)
+    closed = of_closed_classes(state)
     for what, found in addresses(rng, state, len(asked.start)).items():
         for address in found:
             asked.ask(LOOK_UP, address)
             tally[f"{unit}: look-up, {what}{refused}"] += 1
+            tally[f"{unit}: look-up, {what} of a closed class{refused}"] += address in closed
             tally[f"{unit}: look-up of less than it holds"] += not refused and state.shown(address) != state.capacity(address)
     for what, found in positions(rng, state, len(asked.start)).items():
         for position in found:
@@ -81,6 +89,8 @@ def ask_walk(asked, state, tally):
         tally["walk to the end"] += 1
         tally[f"{unit}: walk to the end"] += 1
     tally[f"{unit}: step, a block's"] += 0 if asked.heap.verdict else len(blocks)
+    tally[f"{unit}: step, a page of a closed class"] += (
+        0 if asked.heap.verdict else sum(asked.heap.state.page_class.get(p) in state.shape.closed for p in blocks))
     asked.ask(FIRST_STEP)
     for position in blocks + 2 * [state.end]:
         asked.ask(STEP, position)
@@ -93,7 +103,9 @@ def ask_writing(rng, asked, state, tally):
     written = some(rng, live, 3)
     for address in written + [0, rng.choice(chosen["past the end"] + chosen["inside"])]:
         asked.ask(TURN_OVER, address)
-    tally[f"{asked.heap.shape.name}: written"] += 0 if asked.heap.verdict else len(written)
+    if not asked.heap.verdict:
+        tally[f"{asked.heap.shape.name}: written"] += len(written)
+        tally[f"{asked.heap.shape.name}: written, of a closed class"] += len(of_closed_classes(state).intersection(written))
     for address in written + some(rng, live, 3):
         asked.ask(LOOK_UP, address)
 
@@ -177,8 +189,11 @@ def enough(count):
     least |= {"step, a block's": 2 * half, "step, no block's": half, "step, beyond the end": half,
               "step, no block's in a refused heap": half, "walk to the end": half // 4, "written": half // 2,
               "look-up of less than it holds": half // 5}
+    old = {f"look-up, {what} of a closed class": half // 20 for what in ("live item", "older item", "free item")}
+    old |= {"step, a page of a closed class": half // 5, "written, of a closed class": half // 20}
     return ({kind: count for kind in (LOOK_UP, STEP, FIRST_STEP, STATISTICS, TABLE, REPORT, TURN_OVER)}
-            | {f"{shape}: {case}": number for shape in SHAPES for case, number in least.items()} | enough_heaps(count))
+            | {f"{shape}: {case}": number for shape in SHAPES for case, number in least.items()}
+            | {f"wide: {case}": number for case, number in old.items()} | enough_heaps(count))
 
 
 def main(count, seed, command):

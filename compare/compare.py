@@ -8,7 +8,8 @@
 twin_" compares the plain C twin, and with "--shape hand --cflags=-DTWIN_WORD=4" the
 one for the hand unit. The driver is built below target/compare. The figures that are run come first, then the sizes
 that an item's header can have, then runs on a heap and a longer one, random runs
-and damaged heaps; two processes share them. A failure prints the calls up to the
+on fresh heaps, on any sound ones and on old ones, made by the rule before classes were
+closed, and damaged heaps; two processes share them. A failure prints the calls up to the
 first one that differs, and the status is 1.
 """
 
@@ -27,9 +28,9 @@ from itertools import repeat
 sys.dont_write_bytecode = True  # products belong below target/
 from damage import damaged
 from heaps import Tally
-from runs import (CALLS, HABITS, RESIZES, Player, Run, full_of_pages, random_run, run_and_longer, sound_heap, swept_heap,
+from runs import (CALLS, HABITS, RESIZES, Player, Run, before, full_of_pages, random_run, run_and_longer, sound_heap, swept_heap,
                   swept_run)
-from second import FIGURES, HAND, SHAPES, WIDE, played, sizes_of, used_header
+from second import FIGURES, HAND, SHAPES, VARIABLE, WIDE, Heap, played, sizes_of, start_of, used_header
 
 ROOT = os.path.dirname(os.path.dirname(os.path.abspath(__file__)))
 PRODUCTS = os.path.join(ROOT, "target", "compare")
@@ -44,18 +45,28 @@ PAIRS = 20  # runs on a heap and on a longer one
 SWEPT = 300  # heaps that are swept above all
 # Classes whose pages fill the longest heap, and which shares of these pages are in use: the most items that there can be, in
 # pages of which many are empty; and the most pages, which all stay or all go.
-SWEPT_PAGES = {WIDE: ((0, (0, 0.5, 0.9, 1)), (1, (0.1, 0.5, 0.9, 1)), (1, (0,))),
+SWEPT_PAGES = {WIDE: ((0, (0, 0.5, 0.9, 1)), (1, (0.1, 0.5, 0.9, 1)), (1, (0,)), (WIDE.closed[0], (0, 0.5, 0.9, 1))),
                HAND: ((0, (0, 0.5, 1)), (0, (0.5,)), (0, (0,)))}
 HEAPS_FROM_ONE, HEAPS_FROM_A_LONG_ONE = 25, 2  # damaged heaps made from the same sound one
 # For so many damaged heaps there is at least one call that is refused as not sound: of each form of resize, and of sweep.
 REFUSED_SHARES = dict.fromkeys(RESIZES, 4) | {"sweep": 1}
-# Ways by which one at least of so many damaged heaps must be made: to do with sizes in headers, and with the bytes of a word.
+# Ways by which one at least of so many damaged heaps must be made: to do with sizes in headers, with the smallest blocks, and with
+# the bytes of a word.
 WAY_SHARE = 500
-SIZE_WAYS = ("size_not_known", "size_at_an_end_of_its_class", "size_of_its_class", "size_just_outside_its_class",
-             "size_of_another_class", "huge_size", "two_wrong_sizes", "older_heap", "item_right_for_another_class")
+ITEM_WAYS = ("size_not_known", "size_at_an_end_of_its_class", "size_of_its_class", "size_just_outside_its_class",
+             "size_of_another_class", "huge_size", "two_wrong_sizes", "item_right_for_another_class")
+SIZE_WAYS = ("older_heap", *ITEM_WAYS)
+BLOCK_WAYS = {WIDE: ("small_variable_block", "smallest_variable_block", "variable_block_for_a_size_of_a_closed_class"),
+              HAND: ("small_variable_block", "smallest_variable_block")}
 WORD_WAYS = {WIDE: (), HAND: (
     "first_bytes_of_the_console", "used_item_of_a_class_of_the_console", "next_inside_a_word", "next_in_multiples_of_8",
     "rest_of_8", "spare_bytes_as_a_free_block", "neighbouring_words_swapped", "small_free_block", "lone_small_free_block")}
+# Ways by which one at least of so many damaged heaps must be led to a page, an item or a list of a closed class.
+CLOSED_WAY_SHARE = 2500
+CLOSED_WAYS = {WIDE: ITEM_WAYS + (
+    "item_of_another_class", "item_with_bad_flags", "free_item_as_used", "used_item_as_free", "head_elsewhere", "head_off_by_bytes",
+    "heads_swapped", "next_elsewhere", "ring_of_items", "list_ends_early", "item_left_out", "lists_joined", "used_item_on_a_list",
+    "item_with_the_class_of_its_list", "list_in_another_order", "page_of_another_length", "full_page_as_variable_block"), HAND: ()}
 # What the random runs must meet, each at least once in so many calls.
 COMMON_SHARES = {
     "resize: kept for want of room": 1000,
@@ -85,8 +96,38 @@ COMMON_SHARES = {
     "sweep: a full page stays out of a list": 2000,
     "sweep: equal pages change places": 2500,
 }
+# The same where some classes are closed, on heaps that the rule before made and on others.
+CLOSED_SHARES = {
+    "old heap: a full page of a closed class": 6000,
+    "old heap: a half-full page of a closed class": 3000,
+    "old heap: an empty page of a closed class": 4000,
+    "old heap: a single page of a closed class": 5000,
+    "old heap: several pages of a closed class": 5000,
+    "old heap: pages of several closed classes": 6000,
+    "old heap: pages of closed and of offered classes": 5000,
+    "old heap: pages of closed classes, blocks and free blocks": 5000,
+    "old heap: an older item of a closed class": 6000,
+    "allocate: a block where free items wait": 500,
+    "allocate: 6 where free items wait": 1500,
+    "free: an item of a closed class": 100,
+    "resize: an item of a closed class stays": 2000,
+    "resize: an item of a closed class is kept": 2000,
+    "resize_in_place: an item of a closed class stays": 2000,
+    "resize_in_place: 6 for an item of a closed class and another size": 1000,
+    "resize_in_place: a block is left for a size of a closed class": 500,
+    "resize_in_place: a block shrinks for a size of a closed class": 1000,
+    "resize_in_place: a block grows for a size of a closed class": 2500,
+    "move: an item of a closed class goes to a block for a size of its own": 4000,
+    "move: an item of a closed class goes to a block for another size": 4000,
+    "move: an item of a closed class goes to an item for another size": 20000,
+    "move: 6 for an item of a closed class and a size of its own": 4000,
+    "move: to a block where free items wait": 2500,
+    "sweep: a page of a closed class is given back": 1000,
+    "sweep: a page of a closed class stays, linked anew": 1000,
+    "sweep: the last page of a closed class is given back": 2000,
+}
 SHARES = {
-    WIDE: COMMON_SHARES | {
+    WIDE: COMMON_SHARES | CLOSED_SHARES | {
         "resize: an older item is kept": 2000,
         "sweep: a fuller page comes before a lower one": 1000,
         "sweep: unequal pages change places": 1000,
@@ -245,18 +286,20 @@ def generator(seed, label):
 
 
 def check_second(run):
-    """The second program's kept heap must be what its bytes say."""
+    """The second program's kept heap must be what its bytes say, and no page of a closed class may be new."""
     kept, verdict = run.heap.state, run.heap.verdict
     run.heap.decode()
     if verdict != run.heap.verdict or kept != run.heap.state:
         raise SystemExit(f"compare: {run.label}: the second program lost track of its own heap")
+    if run.pages_of_closed_classes() - run.old_pages:
+        raise SystemExit(f"compare: {run.label}: the second program made a page of a closed class")
 
 
 def figure_runs(shape, figures, counts):
     """The figures that are run. The second program answers what they say, and so must the library."""
     for figure in figures:
-        length, *_ = FIGURES[shape][figure]
-        run = Run(shape, f"figure:{figure}", bytes(length), 0, "zeros")
+        start = start_of(shape, figure)
+        run = Run(shape, f"figure:{figure}", start, 0, "old heap" if any(start) else "zeros")
         for got, wanted in played(figure, run.heap, run.do):
             if got != wanted:
                 raise SystemExit(f"compare: {run.label}: the second program gives {got} instead of {wanted}")
@@ -267,11 +310,11 @@ def figure_runs(shape, figures, counts):
 def size_runs(shape, classes, counts):
     """Of each class a full page, and in the header of its first and of its last item every size that might pass."""
     for c in classes:
-        run = Run(shape, f"sizes:{c}", bytes(5000), 0, "zeros")
-        run.call("initialise")
-        sizes = sizes_of(c)
-        items = [run.call("allocate", sizes[i % len(sizes)])[1] for i in range(shape.items_in_page(c))]
-        huge = [2**bit + size for bit in range(shape.largest_item.bit_length(), 8 * shape.word - 7) for size in (0, sizes[-1])]
+        heap, sizes = Heap(bytearray(5000), before(shape)), sizes_of(c)  # so that there are pages of closed classes too
+        heap.initialise()
+        items = [heap.allocate(sizes[i % len(sizes)])[1] for i in range(shape.items_in_page(c))]
+        run = Run(shape, f"sizes:{c}", heap.data, 0, "a full page")
+        huge = [2**bit + size for bit in range(shape.largest_capacity.bit_length(), 8 * shape.word - 7) for size in (0, sizes[-1])]
         for item in (items[0], items[-1]):
             right = [size for size in (*range(1, 300), *huge, 0)
                      if run.do("put", item - shape.word, used_header(c, size)) == run.call("check") == (0, 0)]
@@ -318,6 +361,7 @@ def random_runs(shape, seed, labels, number, counts):
         check_second(run)
         count_calls(run, counts)
         counts["heaps"] += 1
+        counts["old heaps"] += run.origin == "old heap"
         yield run
 
 
@@ -328,16 +372,25 @@ def damaged_runs(shape, rng, label, counts):
     length = rng.randint(low, high)
     base = sound_heap(rng, shape, length)
     for _ in range(HEAPS_FROM_A_LONG_ONE if length >= habits.long[0] else HEAPS_FROM_ONE):
-        name, data, stays_sound = damaged(rng, shape, base)
-        run = Run(shape, label, data, rng.randrange(8), name)
+        damage = damaged(rng, shape, base)
+        run = Run(shape, label, damage.data, rng.randrange(8), damage.way)
         still_sound = run.heap.verdict == 0
-        if stays_sound not in (None, still_sound):
-            raise SystemExit(f"compare: {label} ({name}): the second program says {run.heap.verdict}")
+        if damage.stays_sound not in (None, still_sound) or not agrees_with_before(run):
+            raise SystemExit(f"compare: {label} ({damage.way}): the second program says {run.heap.verdict}")
         calls_on_damaged(rng, run)
         counts["damaged"] += 1
         counts["still sound"] += still_sound
-        counts[name] += 1
+        counts[damage.way] += 1
+        counts[f"{damage.way}, closed"] += damage.in_closed
         yield run
+
+
+def agrees_with_before(run):
+    """Whether the check says what the rule before said, but for the blocks that were too small for that."""
+    rule, state = before(run.shape), run.heap.state
+    if rule == run.shape or Heap(run.heap.data, rule).verdict == run.heap.verdict:
+        return True
+    return state is not None and any(kind == VARIABLE and size < rule.smallest_variable for kind, size in state.blocks.values())
 
 
 def calls_on_damaged(rng, run):
@@ -422,7 +475,8 @@ def demand_enough(shape, counts, damaged_counts):
     counts.demand({"pairs": PAIRS, "pairs: pages are given back": PAIRS})
     number = damaged_counts["damaged"]
     damaged_counts.demand({f"{call}: refused with 3": number // share for call, share in REFUSED_SHARES.items()})
-    damaged_counts.demand(dict.fromkeys(SIZE_WAYS + WORD_WAYS[shape], number // WAY_SHARE))
+    damaged_counts.demand(dict.fromkeys(SIZE_WAYS + BLOCK_WAYS[shape] + WORD_WAYS[shape], number // WAY_SHARE))
+    damaged_counts.demand({f"{way}, closed": number // CLOSED_WAY_SHARE for way in CLOSED_WAYS[shape]})
 
 
 def stack_used(drivers, calls, limit):
@@ -465,8 +519,8 @@ def main():
     stack = stack_used(drivers, calls, chosen.stack)
     print(f"compare: {chosen.shape.name}: {counts['figures']} figures, {counts['sizes']} sizes in headers, and from seed {chosen.seed} "
           f"{counts['pairs']} runs on a heap and a longer one, {counts['swept']} heaps that are swept above all, {calls} calls on "
-          f"{counts['heaps']} heaps and {damaged_counts['damaged']} damaged heaps ({damaged_counts['still sound']} of them still "
-          f"sound) agree, {stack}, {time.monotonic() - began:.0f} s")
+          f"{counts['heaps']} heaps ({counts['old heaps']} of them old) and {damaged_counts['damaged']} damaged heaps "
+          f"({damaged_counts['still sound']} of them still sound) agree, {stack}, {time.monotonic() - began:.0f} s")
     counts.update(damaged_counts)
     print("compare: among them " + ", ".join(f"{counts[case]} of '{case}'" for case in SHARES[chosen.shape]))
     return 0

@@ -2,8 +2,11 @@
 
 Each way takes a Patient and changes its bytes, or answers False where the heap
 has nothing of the kind. Most change the abstract heap and lay it out anew, so
-that all is consistent but for the one thing that is wrong.
+that all is consistent but for the one thing that is wrong. Where there are pages of
+closed classes, every second patient is damaged in these.
 """
+
+from typing import NamedTuple
 
 from second import FREE, HAND, PAGE, SHAPES, VARIABLE, WIDE, Heap, end_of, free_header, sizes_of, used_header
 
@@ -28,6 +31,14 @@ class Patient:
         self.data = bytearray(data)
         self.heap = Heap(self.data, shape)
         self.state = self.heap.state
+        self.wants_closed = bool(shape.closed) and rng.random() < 0.5
+        self.in_closed = False  # whether something of a closed class was chosen because of that
+
+    def preferred(self, things, class_of_one):
+        """Those of closed classes alone, where they are wanted and there are some."""
+        closed = [thing for thing in things if class_of_one(thing) in self.shape.closed] if self.wants_closed else []
+        self.in_closed |= bool(closed)
+        return closed or things
 
     def get(self, position):
         return self.heap.word_at(position)
@@ -50,18 +61,20 @@ class Patient:
         fits = [p for p in state.starts
                 if kind in (None, state.blocks[p][0]) and state.blocks[p][1] >= smallest
                 and (before is None or state.blocks.get(p + state.blocks[p][1], (None,))[0] == before)]
+        fits = self.preferred(fits, state.page_class.get) if kind == PAGE else fits
         return self.rng.choice(fits) if fits else None
 
     def any_class(self, items=1):
         """A random class with at least so many free items."""
-        fits = [c for c in range(self.shape.classes) if len(self.state.lists[c]) >= items]
+        fits = self.preferred([c for c in range(self.shape.classes) if len(self.state.lists[c]) >= items], lambda c: c)
         return self.rng.choice(fits) if fits else None
 
     def another_class(self, c):
         return (c + self.rng.randrange(1, self.shape.classes)) % self.shape.classes
 
     def any_used_item(self):
-        return self.rng.choice(list(self.state.item_class)) if self.state.item_class else None
+        fits = self.preferred(list(self.state.item_class), self.state.item_class.get)
+        return self.rng.choice(fits) if fits else None
 
     def put_tags(self, position, size, kind):
         self.put(position, size + kind)
@@ -73,7 +86,7 @@ class Patient:
 
     def huge_bit(self):
         """A bit of the size in a header that no size of an item has."""
-        return 2**self.rng.randint(self.shape.largest_item.bit_length(), self.bits - 8)
+        return 2**self.rng.randint(self.shape.largest_capacity.bit_length(), self.bits - 8)
 
     def put_used(self, item, c, size):
         """Gives an item the header of one in use, of any class and for any size."""
@@ -197,15 +210,33 @@ def wild_size(p):
         p.put_tags(block, wild, kind)
 
 
+def start_in_a_variable_block(p, size):
+    """The start of a free block, or of a variable one, becomes a variable block of this size; the rest stays what it was."""
+    kinds = {FREE: p.shape.smallest_free, VARIABLE: p.shape.smallest_variable}
+    blocks = [block for kind, least in kinds.items() if (block := p.any_block(kind, size + least)) is not None]
+    if not blocks:
+        return False
+    block = p.rng.choice(blocks)
+    kind, whole = p.state.blocks[block]
+    p.split(block, (VARIABLE, size), (kind, whole - size))
+
+
 @way(False)
 def small_variable_block(p):
-    least, least_free = p.shape.smallest_variable, p.shape.smallest_free
-    block = p.any_block(FREE, least - 8 + least_free)
-    if block is None:
-        return False
-    small = p.rng.choice((least - 8, least - 8, least - 16, least_free, p.shape.tags,
-                          8 * p.rng.randint(p.shape.tags // 8, least // 8 - 1)))
-    p.split(block, (VARIABLE, small), (FREE, p.state.blocks[block][1] - small))
+    least, tags = p.shape.smallest_variable, p.shape.tags
+    return start_in_a_variable_block(p, p.rng.choice((
+        least - 8, least - 8, least - 16, p.shape.smallest_free, tags, 8 * p.rng.randint(tags // 8, least // 8 - 1))))
+
+
+@way(True)
+def smallest_variable_block(p):
+    return start_in_a_variable_block(p, p.shape.smallest_variable)
+
+
+@way(True, [WIDE])
+def variable_block_for_a_size_of_a_closed_class(p):
+    """By the rule before there was none so small."""
+    return start_in_a_variable_block(p, p.shape.block_size(p.size_in(p.rng.choice(p.shape.closed))))
 
 
 def end_in_a_small_free_block(p, block, small):
@@ -276,7 +307,7 @@ def page_of_another_length(p):
 
 @way(True)
 def page_in_a_free_block(p):
-    c = p.rng.randrange(p.shape.classes)
+    c = p.rng.choice(p.preferred(range(p.shape.classes), lambda c: c))
     block = p.any_block(FREE, p.shape.page_size(c) + p.shape.smallest_free)
     if block is None:
         return False
@@ -455,7 +486,7 @@ def huge_size(p):
 def two_wrong_sizes(p):
     """Two items of a page have the same bit too many, or one is too large by what the other is too small."""
     pages = [[item for item in p.state.items_of_page(page) if item in p.state.item_class] for page in p.state.page_class]
-    pages = [used for used in pages if len(used) > 1]
+    pages = p.preferred([used for used in pages if len(used) > 1], lambda used: p.state.item_class[used[0]])
     if not pages:
         return False
     one, other = p.rng.sample(p.rng.choice(pages), 2)
@@ -477,7 +508,7 @@ def older_heap(p):
 
 @way(False)
 def head_elsewhere(p):
-    p.spoil(p.shape.head(p.rng.randrange(p.shape.classes)))
+    p.spoil(p.shape.head(p.rng.choice(p.preferred(range(p.shape.classes), lambda c: c))))
 
 
 @way(False)
@@ -736,10 +767,18 @@ def neighbouring_words_swapped(p):
     swap_words(p, at, at + p.shape.word if at + 2 * p.shape.word <= len(p.data) else at - p.shape.word)
 
 
-def damaged(rng, shape, data):
-    """The name of a way, the bytes after it, and what its verdict must be (None: as it happens)."""
+class Damage(NamedTuple):
+    way: str
+    data: bytes
+    stays_sound: bool | None  # what the verdict must be; none: as it happens
+    in_closed: bool  # whether the way was led to something of a closed class
+
+
+def damaged(rng, shape, data, verdict=None):
+    """A sound heap after one of the ways, or of those with this verdict."""
+    ways = [(function, stays_sound) for function, stays_sound in WAYS[shape] if verdict in (None, stays_sound)]
     while True:
-        function, stays_sound = rng.choice(WAYS[shape])
+        function, stays_sound = rng.choice(ways)
         patient = Patient(rng, shape, data)
         if function(patient) is not False:
-            return function.__name__, bytes(patient.data), stays_sound
+            return Damage(function.__name__, bytes(patient.data), stays_sound, patient.in_closed)

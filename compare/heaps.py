@@ -5,10 +5,12 @@ import sys
 from collections import Counter
 
 from damage import Patient, bytes_that_may_be_anything, damaged
-from runs import HABITS, other_magic, sound_heap
+from runs import HABITS, heap_with_old_pages, other_magic, sound_heap, what_is_old
 from second import HAND, SHAPES, WIDE, Heap
 
-DAMAGED_FROM_ONE = 3
+# Damaged heaps made from the same sound one: by a way that leaves it sound, by one that does not, and by any; of a long one, one of these.
+VERDICTS = (True, False, None)
+OLD_HEAPS = 8  # with pages of closed classes, beside those that come by chance
 
 
 class Tally(Counter):
@@ -43,8 +45,8 @@ def some_from(rng, shape, base):
     yield "sound", base
     yield "payloads changed", changed(rng, shape, base)
     yield "of the other shape", other_magic(shape) + base[8:]
-    for _ in range(1 if is_long(shape, base) else DAMAGED_FROM_ONE):
-        yield "damaged", damaged(rng, shape, base)[1]
+    for verdict in rng.sample(VERDICTS, 1 if is_long(shape, base) else len(VERDICTS)):
+        yield "damaged", damaged(rng, shape, base, verdict).data
 
 
 def no_heaps(rng, shape):
@@ -62,6 +64,9 @@ def some_heaps(rng, count):
         for what, data in no_heaps(rng, shape):
             made += 1
             yield what, data, state
+        for _ in range(OLD_HEAPS if shape.closed else 0):
+            data = heap_with_old_pages(rng, shape, HABITS[shape].usual[1])
+            yield "old", data, Heap(bytearray(data), shape).state
     for shape in itertools.cycle(SHAPES.values()):
         if made >= count:
             return
@@ -78,16 +83,21 @@ def note(tally, what, heap):
     cases = {"heaps": True, what: True, "granted": granted, "refused": not granted, f"refused with {heap.verdict}": not granted,
              "damaged and still sound": granted and what == "damaged",
              "items with and without a size": granted and 0 < len(heap.state.asked) < len(heap.state.item_class)}
+    cases |= dict.fromkeys(what_is_old(heap.state) if granted else (), True)
     for case, met in cases.items():
         tally[case] += met
         tally[f"{heap.shape.name}: {case}"] += met
 
 
 def enough_heaps(count):
-    """What `demand` asks of so many heaps, half of them of either shape."""
+    """What `demand` asks of so many heaps, half of them of either shape; of these some of the console's have old pages."""
     half = count // 2
     least = {"sound": half // 8, "payloads changed": half // 8, "of the other shape": half // 8, "granted": half // 3,
-             "refused": half // 3, "refused with 1": 8, "refused with 3": half // 3, "damaged and still sound": half // 20,
-             "items with and without a size": half // 100}
+             "refused": half // 3, "refused with 1": 8, "refused with 3": half // 4, "damaged and still sound": half // 20,
+             "items with and without a size": half // 200}
+    old = dict.fromkeys(("a full page of a closed class", "a half-full page of a closed class", "an empty page of a closed class",
+                         "pages of several closed classes", "pages of closed and of offered classes",
+                         "pages of closed classes, blocks and free blocks", "an older item of a closed class"), half // 100)
     return ({"heaps": count, "wide: refused with 2": 6}  # none of the hand unit's: its first bytes tell that it is one
+            | {f"wide: {case}": number for case, number in old.items()}
             | {f"{shape}: {case}": number for shape in SHAPES for case, number in least.items()})

@@ -40,9 +40,9 @@ def size_of_record(choose):
     if kind < 0.5:
         return choose.randint(1, 300)
     if kind < 0.6:
-        return choose.choice([1, 8, 9, 128, 255, 256, 257, 264, 272, 273])
+        return choose.choice([1, 8, 9, 120, 121, 127, 128, 129, 136, 137, 144, 152, 255, 256, 257, 264, 272, 273])
     if kind < 0.97:
-        return choose.randint(257, 6000)
+        return choose.randint(129, 6000)
     return choose.choice([0, 65536, 1048576, 1048577, 4294967295])
 
 

@@ -9,7 +9,7 @@ import bisect
 import sys
 
 sys.dont_write_bytecode = True
-from second import FREE, HAND, PAGE, VARIABLE, WIDE, Heap, item_capacity, shape_of, used_header
+from second import BEFORE, FREE, HAND, PAGE, VARIABLE, WIDE, Heap, item_capacity, shape_of, used_header
 
 NAMES = {1: "bad length", 2: "not opened", 3: "not sound"}
 STATISTICS = ("free bytes", "free blocks", "largest free block", "variable blocks", "pages", "live items")
@@ -17,8 +17,9 @@ CHARACTERS, COLUMNS = 1024, 64
 LONGEST_INPUT = WIDE.longest  # so much the program reads, and no heap is longer
 
 
-def class_lines(table):
-    return [f"{c} {item_capacity(c)} {pages} {live} {free}" for c, (pages, live, free) in enumerate(table) if pages]
+def class_lines(shape, table):
+    return [f"{c} {item_capacity(c)} {pages} {live} {free}" + " closed" * (c in shape.closed)
+            for c, (pages, live, free) in enumerate(table) if pages]
 
 
 def block_line(state, answer):
@@ -71,7 +72,8 @@ def report(heap):
     state = heap.state
     payloads = [f"{a} {state.capacity(a)} {state.shown(a)}" for a in sorted(state.live_addresses())]
     return (said + ["", "statistics"] + [f"{name} {n}" for name, n in zip(STATISTICS, six)]
-            + ["", "classes: class, item size, pages, live items, free items"] + class_lines(table)
+            + ["", "classes: class, item size, pages, live items, free items; closed: no more are handed out"]
+            + class_lines(heap.shape, table)
             + ["", "blocks: position, size, what it is"] + block_lines(heap)
             + ["", "live payloads: address, capacity, shown"] + payloads
             + [""] + map_lines(state))
@@ -90,24 +92,29 @@ def forget(heap, address):
 
 
 def sample():
-    """The console's. Free and variable blocks, and pages that are full, half full, nearly empty and empty; its length is no multiple of 8.
-    The items are for sizes of their class in turn, from the greatest down; of one the size is not known."""
-    heap = Heap(bytearray(28001))
+    """The console's, begun by the rule before. Free and variable blocks, and pages that are full, half full, nearly empty and
+    empty, of closed classes and of others; its length is no multiple of 8. The items are for sizes of their class in turn, from
+    the greatest down; of one the size is not known."""
+    heap = Heap(bytearray(37001), BEFORE)
     granted(heap.initialise())
     take = lambda size, count=1: [granted(heap.allocate(size - i % 8)) for i in range(count)]
     large = take(300) + take(1000)
     full = take(256, 16)
     large += take(257) + take(700)
-    half = take(128, 31)
+    half, half_closed = take(128, 31), take(192, 21)
     large += take(2000) + take(264)
-    empty = take(64)
+    empty = take(64) + take(136)
     few = take(256, 3)
     large += take(400)
     take(13)
-    for address in large[1:6:2] + half[::2] + empty + few[:1]:
+    heap = Heap(heap.data)  # the rule of today, that closed some classes
+    for address in large[1:6:2] + half[::2] + half_closed[::2] + empty + few[:1]:
         granted(heap.free(address))
     granted(heap.resize(large[0], 288))
     granted(heap.resize_in_place(half[1], 125))
+    granted(heap.resize_in_place(half_closed[1], 187))
+    granted(heap.move(few[1], 255))
+    take(192)
     forget(heap, full[2])
     return heap
 

@@ -14,7 +14,7 @@ from concurrent.futures import ThreadPoolExecutor
 sys.dont_write_bytecode = True
 from heaps import Tally, enough_heaps, note, some_heaps
 from report import LONGEST_INPUT, report, told_heap
-from second import HAND, SHAPES, Heap
+from second import BEFORE, HAND, SHAPES, Heap
 
 
 def filled(shape, size, keep):
@@ -38,6 +38,7 @@ def cases(rng, count):
     for shape in SHAPES.values():
         yield "full of the smallest items", filled(shape, 1, True)
         yield "full of blocks, every second one free", filled(shape, shape.largest_item + 1, False)
+    yield "full of items of a closed class, every second one free", filled(BEFORE, BEFORE.largest_item, False)
     for what, data, _ in some_heaps(rng, count):
         yield what, data
 

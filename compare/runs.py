@@ -4,8 +4,8 @@ import struct
 from collections import Counter
 from typing import NamedTuple
 
-from second import (BAD_LENGTH, FREE, GRANTED, HAND, ITEM_FREE, ITEM_IN_USE, NO_ROOM, PAGE, SHAPES, VARIABLE, WIDE, Heap, State,
-                    class_of, end_of, free_header, sizes_of, used_header)
+from second import (BAD_LENGTH, BEFORE, FREE, GRANTED, HAND, ITEM_FREE, ITEM_IN_USE, NO_ROOM, PAGE, SHAPES, VARIABLE, WIDE, Heap,
+                    Shape, State, class_of, end_of, free_header, sizes_of, used_header)
 
 NUMBER = struct.Struct("<Q")  # in commands; the heap's words are the shape's
 CALLS = {"initialise": b"I", "check": b"C", "allocate": b"A", "resize": b"R", "resize_in_place": b"H", "move": b"M",
@@ -25,9 +25,15 @@ def bad_sizes(shape):
 
 
 def edge_sizes(shape):
-    item = shape.largest_item
-    return (1, 7, 8, 9, 16, 17, item - 9, item - 8, item - 7, item - 1, item, item + 1, item + 2, item + 7, item + 8, item + 9,
-            item + 16, item + 17, shape.largest_size)
+    """Around the largest item, and the largest of a closed class."""
+    around = (-9, -8, -7, -1, 0, 1, 2, 7, 8, 9, 16, 17, 24)
+    items = dict.fromkeys((shape.largest_item, shape.largest_capacity))
+    return 1, 7, 8, 9, 16, 17, *(item + more for item in items for more in around), shape.largest_size
+
+
+def before(shape):
+    """A shape by the rule before (xi), under which no class was closed."""
+    return BEFORE if shape == WIDE else shape
 
 
 def bad_lengths(shape):
@@ -63,26 +69,25 @@ HABITS = {
                  short=(HAND.shortest, 400), usual=(400, 4000), long=(15000, HAND.longest),
                  swept=(400, 6000), paired=(400, 4000), longer=4000, block=600, invented_block=800),
 }
+HABITS[BEFORE] = HABITS[WIDE]
 
 
 class Record(NamedTuple):
     """A live record."""
-    classes: int  # of its heap's shape
+    shape: Shape
+    c: int | None  # an item's class; none of a block
     capacity: int
     asked: int  # for how many bytes an item is, 0 where that is not known; of a block 0
 
-    def sort(self):
-        return self.sort_of(self.capacity)
+    def is_closed(self):
+        return self.c in self.shape.closed
 
-    def sort_of(self, size):
-        """The class of a size; for blocks what comes after the last."""
-        return min(class_of(size), self.classes)
-
-    def is_block(self):
-        return self.sort() == self.classes
+    def is_for(self, size):
+        """Whether it is of the kind, and the class, that the size has."""
+        return size > self.shape.largest_item if self.c is None else self.c == class_of(size)
 
     def what(self):
-        if self.is_block():
+        if self.c is None:
             return "a block"
         return "an item" if self.asked else "an older item"
 
@@ -95,9 +100,9 @@ def what_came(refusal, size, old, new, moved):
         return f"refused with {refusal}"
     if not moved:
         return what_stayed(size, old, new)
-    if old.sort() != new.sort():
+    if old.c != new.c:
         return "to another class or kind"
-    return "from block to block" if new.is_block() else "within its class"
+    return "from block to block" if new.c is None else "within its class"
 
 
 def what_stayed(size, old, new):
@@ -106,7 +111,23 @@ def what_stayed(size, old, new):
         return "shrunk or grown"
     if old.asked != new.asked:
         return f"{old.what()} has another size"
-    return f"{old.what()} is left as it was" if old.sort() == old.sort_of(size) else f"{old.what()} is kept"
+    return f"{old.what()} is left as it was" if old.is_for(size) else f"{old.what()} is kept"
+
+
+def what_came_of_closed(size, old, new, moved):
+    """The same of an item of a closed class; new is none where it is refused for want of room."""
+    own = "a size of its own" if old.is_for(size) else "another size"
+    if new is None:
+        return f"6 for an item of a closed class and {own}"
+    if not moved:
+        return f"an item of a closed class {'stays' if old.is_for(size) else 'is kept'}"
+    return f"an item of a closed class goes to {'a block' if new.c is None else 'an item'} for {own}"
+
+
+def what_came_of_block(old, new):
+    """How a block stayed for a size of a closed class."""
+    change = "is left" if old.capacity == new.capacity else "shrinks" if old.capacity > new.capacity else "grows"
+    return f"a block {change} for a size of a closed class"
 
 
 def where_given_back(state):
@@ -114,6 +135,8 @@ def where_given_back(state):
     behind = {page: page + state.blocks[page][1] for page in state.page_class if not state.held_in(page)}
     if behind:
         yield "a page is given back"
+    if any(state.page_class[page] in state.shape.closed for page in behind):
+        yield "a page of a closed class is given back"
     if any(position in behind for position in behind.values()):
         yield "touching pages are given back"
     if any(state.is_free(state.block_before(page)) and state.is_free(position) for page, position in behind.items()):
@@ -127,6 +150,8 @@ def how_linked_anew(state, old_lists):
     changed = [c for c in range(state.shape.classes) if state.lists[c] != old_lists[c]]
     if len(changed) > 1:
         yield "lists of several classes change"
+    if any(c in state.shape.closed and state.lists[c] for c in changed):
+        yield "a page of a closed class stays, linked anew"
     for c in changed:
         was, now = ([*dict.fromkeys(map(state.block_before, reversed(items)))] for items in (old_lists[c], state.lists[c]))
         if len(now) < sum(d == c for d in state.page_class.values()):
@@ -137,6 +162,26 @@ def how_linked_anew(state, old_lists):
             if was.index(first) > was.index(second):
                 equal = state.held_in(first) == state.held_in(second)
                 yield "equal pages change places" if equal else "unequal pages change places"
+
+
+def what_is_old(state):
+    """What a heap has of closed classes."""
+    closed = {page: c for page, c in state.page_class.items() if c in state.shape.closed}
+    for page in closed:
+        held, items = state.held_in(page), len(state.items_of_page(page))
+        yield f"{'an empty' if held == 0 else 'a full' if held == items else 'a half-full'} page of a closed class"
+    if len(closed) == 1:
+        yield "a single page of a closed class"
+    if len(closed) > len({*closed.values()}):
+        yield "several pages of a closed class"
+    if len({*closed.values()}) > 1:
+        yield "pages of several closed classes"
+    if closed and len(closed) < len(state.page_class):
+        yield "pages of closed and of offered classes"
+    if closed and state.free and any(kind == VARIABLE for kind, _ in state.blocks.values()):
+        yield "pages of closed classes, blocks and free blocks"
+    if any(c in state.shape.closed and item not in state.asked for item, c in state.item_class.items()):
+        yield "an older item of a closed class"
 
 
 class Step(NamedTuple):
@@ -150,7 +195,8 @@ class Step(NamedTuple):
 class Run:
     """One lent buffer and what is done to it, in order.
 
-    "met" counts what came of each form of resize, what was freed, and what sweeps met.
+    "met" counts what an old heap has of closed classes, what came of allocations for their sizes and of each form of resize,
+    what was freed, and what sweeps met.
     """
 
     def __init__(self, shape, label, start, shift, origin):
@@ -159,10 +205,17 @@ class Run:
         self.origin = origin  # what the bytes at the start are, in a word
         self.start = bytes(start)
         self.heap = Heap(bytearray(start), shape)
+        if origin in ("sound heap", "old heap") and self.heap.verdict != GRANTED:
+            raise SystemExit(f"compare: {label}: the second program refuses a {origin}")
+        self.old_pages = self.pages_of_closed_classes()
         self.steps = []
         self.calls = 0
-        self.met = Counter()
+        self.met = Counter(f"old heap: {case}" for case in set(what_is_old(self.heap.state) if origin == "old heap" else ()))
         self.commands = bytearray(struct.pack("<cQQ", b"S", shift, len(start)) + self.start)
+
+    def pages_of_closed_classes(self):
+        state = self.heap.state
+        return {(page, c) for page, c in state.page_class.items() if c in self.shape.closed} if state else set()
 
     def call(self, name, *arguments):
         """Lets the second program answer, and the library be asked."""
@@ -184,16 +237,36 @@ class Run:
     def record(self, address):
         """The record at an address; none where there is none, or no heap."""
         state = self.heap.state
-        capacity = state.capacity(address) if state else None
-        return capacity and Record(self.shape.classes, capacity, state.asked.get(address - self.shape.word, 0))
+        capacity, position = state.capacity(address) if state else None, address - self.shape.word
+        return capacity and Record(self.shape, state.item_class.get(position), capacity, state.asked.get(position, 0))
+
+    def waits(self, size):
+        """Whether this size is of a closed class of which free items wait."""
+        state, c = self.heap.state, class_of(size)
+        return bool(state and c in self.shape.closed and state.lists[c])
+
+    def allocate(self, size):
+        """Allocates, and counts where free items of the size's class wait."""
+        waits = self.waits(size)
+        refusal, address = self.call("allocate", size)
+        self.met["allocate: 6 where free items wait" if refusal else "allocate: a block where free items wait"] += waits
+        return refusal, address
 
     def resize(self, form, address, size):
         """Calls one of the forms of resize and counts what came of it."""
-        old = self.record(address)
+        old, waits = self.record(address), self.waits(size)
         refusal, new = self.call(form, address, size)
-        self.met[f"{form}: {what_came(refusal, size, old, self.record(new), new != address)}"] += 1
-        if not refusal and new != address:
+        record, moved = self.record(new), new != address
+        self.met[f"{form}: {what_came(refusal, size, old, record, moved)}"] += 1
+        if old and old.is_closed() and refusal in (GRANTED, NO_ROOM):
+            self.met[f"{form}: {what_came_of_closed(size, old, record, moved)}"] += 1
+        if refusal:
+            return refusal, new
+        if moved:
             self.count_copy(form, old, address, new, size)
+            self.met[f"{form}: to a block where free items wait"] += waits
+        elif old.c is None and class_of(size) in self.shape.closed:
+            self.met[f"{form}: {what_came_of_block(old, record)}"] += 1
         return refusal, new
 
     def count_copy(self, form, old, address, new, size):
@@ -207,12 +280,14 @@ class Run:
         old = self.record(address)
         refusal, _ = self.call("free", address)
         self.met[f"free: refused with {refusal}" if refusal else f"free: {old.what()}"] += 1
+        self.met["free: an item of a closed class"] += not refusal and old.is_closed()
         return refusal
 
     def sweep(self):
         """Sweeps, and counts each case that it met once."""
         state = self.heap.state
         cases, old_lists = set(where_given_back(state) if state else ()), state and state.lists
+        had_closed = bool(self.pages_of_closed_classes())
         refusal, pages = self.call("sweep")
         self.met["sweeps"] += 1
         changed = bool(self.steps[-1].writes)
@@ -220,6 +295,8 @@ class Run:
             cases.add(f"refused with {refusal}")
         else:
             cases.update(how_linked_anew(state, old_lists))
+            if had_closed and not self.pages_of_closed_classes():
+                cases.add("the last page of a closed class is given back")
             if not pages:
                 cases.add("0, and lists change" if changed else "0, and no byte changes")
         self.met.update(f"sweep: {case}" for case in cases)
@@ -248,10 +325,18 @@ class Run:
 
 
 def random_length(rng, shape):
-    """A length that may be lent, with all the borders that 01 names well hit."""
+    """A length that may be lent, with all the borders that 01 names well hit, and those where a small block just fits."""
     habits = HABITS[shape]
-    ranges = (habits.tiny, habits.first_page, *habits.played, (shape.longest - 8, shape.longest))
-    return rng.randint(*rng.choices(ranges, (15, 15, 35, 20, 8, 5))[0])
+    blocks = [shape.block_size(size) for size in edge_sizes(shape) if shape.largest_item < size < shape.largest_size]
+    small = shape.data_area + rng.choice(blocks)
+    ranges = (habits.tiny, (small - 8, small), habits.first_page, *habits.played, (shape.longest - 8, shape.longest))
+    return rng.randint(*rng.choices(ranges, (12, 3, 15, 35, 20, 8, 5))[0])
+
+
+def old_length(rng, shape):
+    """The length of an old heap: there is room for a page, most often for some."""
+    habits = HABITS[shape]
+    return rng.randint(*rng.choices((habits.first_page, *habits.played), (5, 75, 18, 2))[0])
 
 
 def garbage(rng, shape, length):
@@ -271,7 +356,7 @@ def garbage(rng, shape, length):
 
 def other_magic(shape):
     """The first bytes of a heap of the other shape."""
-    return next(other.magic for other in SHAPES.values() if other != shape)
+    return next(other.magic for other in SHAPES.values() if other.magic != shape.magic)
 
 
 def free_interior(rng, state, length):
@@ -294,6 +379,7 @@ def forged_words(rng, state):
 
 
 FILLING, DRAINING = (80, 10, 10), (10, 20, 70)
+MOST_RETIRED = 80  # records of closed classes that are freed at the end of a run
 SWEPT_OFTEN = 20000  # longer heaps are swept less: each sweep costs as much as many other calls
 # How likely allocate, resize and free are; the first mood of some is for a heap with nothing in it.
 MOODS = (FILLING, DRAINING, (40, 20, 40), (20, 60, 20))
@@ -315,12 +401,15 @@ class Player:
         self.check_share = 0.02
         self.forget_share = rng.choice((0, 0.05, 0.3))  # of what is poked
         self.sweep_share = rng.choice((0, 0.02, 0.1)) * min(1, SWEPT_OFTEN / max(1, len(run.heap.data)))
+        self.seeks_closed = bool(run.old_pages) and rng.random() < 0.7
         self.set_mood(moods[0])
-        self.class_of_run = rng.randrange(self.shape.classes)
+        self.class_of_run = rng.randrange(rng.choice((self.shape.offered, self.shape.classes)))
         self.size_makers = rng.choice((
             (self.small,), (self.one_class,), (self.block,), (self.small, self.block), (self.edge, self.fit),
             (self.block, self.large, self.fit), (self.one_class, self.one_class, self.block, self.fit),
-            (self.small, self.one_class, self.edge, self.block, self.large, self.fit)))
+            (self.small, self.one_class, self.edge, self.block, self.large, self.fit), *((
+                (self.closed,), (self.small, self.closed), (self.closed, self.edge, self.fit),
+                (self.closed, self.one_class, self.block)) if self.shape.closed else ())))
         for address in run.heap.state.live_addresses() if run.heap.state else ():
             self.add(address)
 
@@ -338,6 +427,12 @@ class Player:
 
     def edge(self):
         return self.rng.choice(edge_sizes(self.shape))
+
+    def closed(self):
+        """A size of a closed class, often of one of which free items wait."""
+        state, closed = self.run.heap.state, self.shape.closed
+        waiting = [c for c in closed if state and state.lists[c]]
+        return self.rng.choice(sizes_of(self.rng.choice(waiting if waiting and self.rng.random() < 0.7 else closed)))
 
     def block(self):
         return self.rng.randint(self.shape.largest_item + 1, HABITS[self.shape].block)
@@ -368,6 +463,8 @@ class Player:
         state, record = self.run.heap.state, self.run.record(address)
         if record is None or self.rng.random() < 0.4:
             return self.size()
+        if record.is_closed() and self.rng.random() < 0.3:
+            return self.rng.choice(sizes_of(record.c))
         capacity = record.capacity
         right = address + capacity + self.shape.word
         if self.rng.random() < 0.5 and state.is_free(right):
@@ -378,8 +475,13 @@ class Player:
 
     def address(self):
         if self.live and self.rng.random() < 0.93:
-            return self.rng.choice(self.live)
+            return self.closed_address() if self.seeks_closed and self.rng.random() < 0.5 else self.rng.choice(self.live)
         return self.wrong_address()
+
+    def closed_address(self):
+        """One of a closed class where there is one among some live ones."""
+        chosen = self.rng.choices(self.live, k=8)
+        return next((address for address in chosen if self.run.record(address).is_closed()), chosen[0])
 
     def wrong_address(self):
         rng, data, shape, word = self.rng, self.run.heap.data, self.shape, self.shape.word
@@ -400,8 +502,8 @@ class Player:
             page = self.rng.choice(list(state.page_class))
             items = state.items_of_page(page)
             found += [page, page + word, self.rng.choice(items) + word, items.stop + word]
-        free_items = state.lists[self.class_of_run]
-        return found + [item + word for item in free_items[-2:]]
+        lists = [items for items in state.lists if items]
+        return found + [item + word for item in (self.rng.choice(lists)[-2:] if lists else ())]
 
     def add(self, address):
         self.place[address] = len(self.live)
@@ -417,7 +519,7 @@ class Player:
     # Calls.
 
     def allocate(self):
-        refusal, address = self.run.call("allocate", self.size())
+        refusal, address = self.run.allocate(self.size())
         if not refusal:
             self.add(address)
         elif refusal == NO_ROOM:
@@ -455,6 +557,16 @@ class Player:
             self.clear_pages()
         self.rng.choice((self.run.sweep, self.run.sweep_twice))()
 
+    def retire(self):
+        """Sweeps an old heap, often when all records of closed classes have been freed, and goes on for a while."""
+        items = [item for item, c in self.run.heap.state.item_class.items() if c in self.shape.closed]
+        if len(items) <= MOST_RETIRED and self.rng.random() < 0.5:
+            for item in items:
+                self.run.free(item + self.shape.word)
+                self.remove(item + self.shape.word)
+        self.run.sweep_twice()
+        self.play(10)
+
     def forget(self):
         """Makes an item, or now and then all, those of an older heap."""
         items = list(self.run.heap.state.asked)
@@ -463,10 +575,10 @@ class Player:
     def poke_forged(self):
         """Puts into a live payload what stands before a payload of its kind."""
         start, shape = self.rng.choice(self.live), self.shape
-        room = self.run.heap.state.capacity(start)
-        at = start + shape.word * self.rng.randrange(room // shape.word)
-        size = self.rng.choice((0, self.rng.randint(room - 7, room)))
-        forged = used_header(class_of(room), size) if room <= shape.largest_item else shape.block_size(room) + VARIABLE
+        record = self.run.record(start)
+        at = start + shape.word * self.rng.randrange(record.capacity // shape.word)
+        size = self.rng.choice((0, self.rng.randint(record.capacity - 7, record.capacity)))
+        forged = shape.block_size(record.capacity) + VARIABLE if record.c is None else used_header(record.c, size)
         self.run.poke_word(at, forged)
         self.forged = self.forged[-20:] + [at + shape.word]
 
@@ -629,27 +741,64 @@ def played_heap(rng, shape, length, count):
     return bytes(run.heap.data)
 
 
+def heap_with_old_pages(rng, shape, length):
+    """The bytes of a heap that calls by the rule before made: full, half-full and empty pages of closed classes, and often
+    some of an offered class, blocks and free blocks among them."""
+    heap = Heap(bytearray(rng.randbytes(length)), before(shape))
+    heap.initialise()
+    classes = rng.choices(shape.closed, k=rng.choice((1, 2, 3))) + rng.choices(range(shape.offered), k=rng.choice((0, 1, 1)))
+    sizes = [rng.choices(sizes_of(c), k=shape.items_in_page(c)) for c in classes for _ in range(rng.randint(1, 3))]
+    sizes += [[rng.randint(heap.shape.largest_item + 1, HABITS[shape].block)] for _ in range(rng.choice((0, 0, 3, 6)))]
+    rng.shuffle(sizes)
+    records = [[address for refusal, address in map(heap.allocate, some) if not refusal] for some in sizes]
+    for addresses in records:  # of a page, or of a block
+        for address in rng.sample(addresses, round(len(addresses) * rng.choice((0, 0.5, 0.5, 1)))):
+            heap.free(address)
+    share_known = rng.choice((0, 0.5, 1, 1))
+    heap.state.asked = {item: size for item, size in heap.state.asked.items() if rng.random() < share_known}
+    heap.lay_out_whole()
+    return bytes(heap.data)
+
+
+def old_heap(rng, shape, length):
+    """The bytes of a sound heap by the rule before: of calls that leave pages of all kinds, of any calls, or of none."""
+    old = before(shape)
+    return rng.choices((lambda: heap_with_old_pages(rng, shape, length),
+                        lambda: played_heap(rng, old, length, rng.randint(50, 300)),
+                        lambda: invented_heap(rng, old, length, TASTES_FOR_PAGES)), (3, 1, 1))[0]()
+
+
 def sound_heap(rng, shape, length):
+    """The bytes of any sound heap; where there are closed classes, it is often an old one."""
+    if shape.closed and rng.random() < 0.3:
+        return old_heap(rng, shape, length)
     if rng.random() < 0.5:
         return invented_heap(rng, shape, length)
     return played_heap(rng, shape, length, rng.randint(50, 500))
 
 
+# What a run begins with, and how likely that is where there are closed classes, and where not.
+STARTS = {"garbage": garbage, "sound heap": invented_heap, "old heap": old_heap}
+START_SHARES = {True: (35, 15, 50), False: (70, 30, 0)}
+
+
 def random_run(rng, shape, label):
-    """A run over one buffer, from garbage or from any sound heap on."""
+    """A run over one buffer, from garbage, from any sound heap or from an old one on."""
     bad = rng.random() < 0.05
-    length = rng.choice(bad_lengths(shape)) if bad else random_length(rng, shape)
-    invented = not bad and rng.random() < 0.3
-    start = invented_heap(rng, shape, length) if invented else garbage(rng, shape, length)
-    run = Run(shape, label, start, rng.randrange(8), "sound heap" if invented else "garbage")
+    origin = "garbage" if bad else rng.choices([*STARTS], START_SHARES[bool(shape.closed)])[0]
+    length = rng.choice(bad_lengths(shape)) if bad else (old_length if origin == "old heap" else random_length)(rng, shape)
+    run = Run(shape, label, STARTS[origin](rng, shape, length), rng.randrange(8), origin)
     player = Player(rng, run)
-    if not invented:
+    if origin == "garbage":
         player.begin()
-    count = 10 if bad else rng.randint(50, min(1500, 100 + length // 20))
+    short = origin == "old heap" and rng.random() < 0.95  # many old heaps tell more than many calls on one
+    count = 10 if bad else rng.randint(30, 120) if short else rng.randint(50, min(1500, 100 + length // 20))
     player.play(count // 2)
     if run.heap.state and rng.random() < 0.3:
         run.forget(list(run.heap.state.asked))  # so far it was an older heap
     player.play(count - count // 2)
+    if origin == "old heap":
+        player.retire()
     run.call("check")
     return run
 
@@ -682,8 +831,8 @@ def swept_run(rng, shape, label, start):
 
 
 def swept_heap(rng, shape):
-    """The bytes of a sound heap with some pages."""
-    return invented_heap(rng, shape, rng.randint(*HABITS[shape].swept), TASTES_FOR_PAGES)
+    """The bytes of a sound heap with some pages; where there are closed classes, of an old one or not."""
+    return invented_heap(rng, rng.choice((shape, before(shape))), rng.randint(*HABITS[shape].swept), TASTES_FOR_PAGES)
 
 
 def run_and_longer(rng, shape, label):

@@ -10,9 +10,10 @@ Run alone, it checks the figures of 01 and 02 and prints how many there were.
 """
 
 import bisect
+import pickle
 import struct
 from collections.abc import Callable
-from dataclasses import dataclass
+from dataclasses import dataclass, replace
 from functools import cached_property
 
 FREE, VARIABLE, PAGE = 0, 2, 3
@@ -62,6 +63,7 @@ class Shape:
     magic: bytes  # the first bytes of a heap
     word: int  # bytes of a stored number
     classes: int
+    offered: int  # of so many classes, the lowest, items are handed out; the others are closed
     items_that_fit: Callable[[int], int]  # how many items a page has, by what one of them takes
     longest: int  # bytes of the longest heap; so much is the largest size, too
 
@@ -114,7 +116,18 @@ class Shape:
         return self.tags + 2 * self.word  # two links
 
     @cached_property
+    def closed(self):
+        """The classes of which pages may still be there, and no item is handed out: document 02, (xi)."""
+        return range(self.offered, self.classes)
+
+    @cached_property
     def largest_item(self):
+        """The largest item that is handed out; above it there are blocks."""
+        return item_capacity(self.offered - 1)
+
+    @cached_property
+    def largest_capacity(self):
+        """What the largest item holds, of a closed class or not."""
         return item_capacity(self.classes - 1)
 
     @cached_property
@@ -169,11 +182,14 @@ class Shape:
         return words * self.word, rest
 
 
-WIDE = Shape(name="wide", magic=bytes.fromhex("7879616c6c6f6301"), word=8, classes=32,
+WIDE = Shape(name="wide", magic=bytes.fromhex("7879616c6c6f6301"), word=8, classes=32, offered=16,
              items_that_fit=lambda item: 4096 // item + 1, longest=1048576)
-HAND = Shape(name="hand", magic=bytes.fromhex("7879616c6c6f6302"), word=4, classes=16,
+HAND = Shape(name="hand", magic=bytes.fromhex("7879616c6c6f6302"), word=4, classes=16, offered=16,
              items_that_fit=lambda item: 2, longest=65536)
 SHAPES = {shape.name: shape for shape in (WIDE, HAND)}
+
+# The console's heap under the rule before (xi), which makes old heaps: no shape of its own, its bytes are read as WIDE.
+BEFORE = replace(WIDE, name="before", offered=WIDE.classes)
 
 
 def shape_of(data):
@@ -504,6 +520,10 @@ class Heap:
         self.decode()
         return self.check()
 
+    def do(self, name, *numbers):
+        """A step of a figure: a call, or a word put by hand."""
+        return getattr(self, name)(*numbers)
+
     # Refusals that depend on what was asked, and the answer where there are none.
 
     def _refuse_size(self, size):
@@ -793,6 +813,13 @@ STALE = [("put", 672, 0x2222222222222222, 0, 0), ("put", 680, 0x3333333333333333
 TWO_PAGES = [OPENED] + [("allocate", 128, 0, a) for a in (*range(328, 4409, 136), *range(4560, 4833, 136))] + [
     ("free", a, 0, 0) for a in range(328, 4273, 136)]
 
+# By the rule before, a page of class 31 at 312 with records of 256 and 250 bytes and 14 free items: what (xi) is told of
+OLD_RECORDS = [OPENED, ("allocate", 256, 0, 328), ("allocate", 250, 0, 592)]
+OLD_PAGE = (10000, OLD_RECORDS)
+OLD_PAGE_ALONE = (4552, OLD_RECORDS)
+# what stands in the 256 bytes of the second, at their end; the last six are stale
+OLD_STALE = [("put", 832, 0x4444444444444444, 0, 0), ("put", 840, 0x5555555555555555, 0, 0)]
+
 # The hand unit's. Two items of class 0
 HAND_ITEMS = [OPENED, ("allocate", 1, 0, 104), ("allocate", 8, 0, 116)]
 
@@ -808,10 +835,28 @@ HAND_BLOCK = [OPENED, ("allocate", 600, 0, 100)]
 HAND_PAGES = [OPENED] + [("allocate", 1, 0, a) for a in (104, 116, 136, 148, 168)] + [("free", a, 0, 0) for a in (104, 136, 168)]
 
 # Figures of 01 and 02 that are run, on this program and, by compare.py, on the library of the shape: the length of a
-# buffer of zeros; calls, and words put by hand, with their refusals and addresses; words by the positions where they
-# then stand; and, of this program alone, how many bytes a look-up then shows, by the address.
-FIGURES = {WIDE: {
+# buffer of zeros, or that and calls by the rule before, which make an old heap of it; calls, and words put by hand, with
+# their refusals and addresses; words by the positions where they then stand; and, of this program alone, how many bytes
+# a look-up then shows, by the address. Those of the rule before are of this program alone.
+FIGURES = {BEFORE: {
+    "largest-item": (4552, [OPENED, ("allocate", 256, 0, 328)],
+                     {24: 0, 296: 536, 312: 4243, 320: 32895, 584: 12925, 4544: 4243}, {328: 256}),
     "block-of-280": (10000, [OPENED, ("allocate", 257, 0, 320)], {312: 282}, {320: 264}),
+    "block-of-272": (584, [OPENED, ("allocate", 256, 6, 0), ("put", 312, 274, 3, 0), ("put", 576, 274, 3, 0),
+                           ("put", 24, 0, 3, 0)], {}, {320: 0}),
+    "block-moved": (10000, [OPENED, ("allocate", 300, 0, 320), ("resize_in_place", 320, 256, 6, 0),
+                            ("resize_in_place", 320, 257, 0, 320), ("move", 320, 257, 0, 600)],
+                    {24: 312, 312: 280, 320: 872, 592: 282, 872: 9128}, {600: 264}),
+    "item-moved": (10000, OLD_RECORDS + [("move", 592, 256, 0, 856)], {296: 536, 584: 17149, 848: 32895}, {592: 0, 856: 256}),
+}, WIDE: {
+    "largest-item": (10000, [OPENED, ("allocate", 128, 0, 328)], {24: 4544, 168: 408, 312: 4235, 320: 16447}, {328: 128}),
+    "block-of-152": (10000, [OPENED, ("allocate", 129, 0, 320)], {24: 464, 312: 154, 456: 154, 464: 9536}, {320: 136}),
+    "block-of-272": (584, [OPENED, ("allocate", 257, 6, 0), ("allocate", 256, 0, 320)], {24: 0, 312: 274, 576: 274}, {320: 256}),
+    "block-of-280": (10000, [OPENED, ("allocate", 257, 0, 320)], {312: 282}, {320: 264}),
+    "block-of-152-is-sound": (464, [OPENED, ("put", 312, 154, 3, 0), ("put", 456, 154, 3, 0), ("put", 24, 0, 0, 0),
+                                    ("check", 0, 0), ("free", 320, 0, 0)], {24: 312, 312: 152}, {}),
+    "block-of-144-is-not": (456, [OPENED, ("put", 312, 146, 3, 0), ("put", 448, 146, 3, 0), ("put", 24, 0, 3, 0),
+                                  ("check", 3, 0), ("free", 320, 3, 0)], {24: 0, 312: 146}, {320: 0}),
     "page-at-312": (10000, [OPENED, ("allocate", 16, 0, 328), ("free", 48, 5, 0), ("free", 320, 5, 0)],
                     {312: 4123}, {320: 0, 328: 16}),
     "call-list": (10000, list(example_calls()), {}, {}),
@@ -823,9 +868,15 @@ FIGURES = {WIDE: {
                            ("resize_in_place", 328, 8, 6, 0), ("resize_in_place", 328, 17, 6, 0),
                            ("move", 328, 16, 0, 352)],
                    {56: 272, 320: 5125, 344: 2055}, {328: 0, 352: 16}),
-    "block-moved": (10000, [OPENED, ("allocate", 300, 0, 320), ("resize_in_place", 320, 256, 6, 0),
-                            ("resize_in_place", 320, 257, 0, 320), ("move", 320, 257, 0, 600)],
-                    {24: 312, 312: 280, 320: 872, 592: 282, 872: 9128}, {600: 264}),
+    "block-moved": (10000, [OPENED, ("allocate", 300, 0, 320), ("resize_in_place", 320, 128, 6, 0),
+                            ("resize_in_place", 320, 129, 0, 320), ("move", 320, 129, 0, 472)],
+                    {24: 312, 312: 152, 320: 616, 464: 154, 616: 9384}, {472: 136}),
+    "block-grown-to-256": (10000, [OPENED, ("allocate", 129, 0, 320), ("resize_in_place", 320, 256, 0, 320)],
+                           {24: 584, 312: 274, 576: 274, 584: 9416}, {320: 256}),
+    "block-shrunk-to-225": (10000, [OPENED, ("allocate", 256, 0, 320), ("resize_in_place", 320, 225, 0, 320)],
+                            {24: 584, 312: 274, 584: 9416}, {320: 256}),
+    "block-shrunk-to-224": (10000, [OPENED, ("allocate", 256, 0, 320), ("resize_in_place", 320, 224, 0, 320)],
+                            {24: 552, 312: 242, 544: 242, 552: 9448}, {320: 224}),
     "size-kept": (10000, REMARK, {640: 2055, 664: 1671}, {320: 304, 648: 16, 672: 13}),
     "size-in-place": (10000, REMARK + [("resize_in_place", 672, 9, 0, 672)], {664: 1159}, {672: 9}),
     "size-moved": (10000, REMARK + STALE + [("move", 672, 16, 0, 696)],
@@ -851,6 +902,33 @@ FIGURES = {WIDE: {
         ("sweep", 0, 2), ("sweep", 0, 0), ("allocate", 9672, 0, 320)],
                        {24: 0, 168: 0, 312: 9690, 4528: 0, 4536: 4232, 4544: 4235, 8768: 4235, 9984: 0, 9992: 9690},
                        {320: 9672, 4560: 0}),
+    "old-page": (OLD_PAGE, [("check", 0, 0)], {296: 800, 312: 4243, 320: 32895, 584: 32127, 848: 17149, 4280: 125},
+                 {328: 256, 592: 250, 856: 0}),
+    "old-item-freed": (OLD_PAGE, [("free", 592, 0, 0), ("free", 592, 5, 0)], {296: 536, 584: 12925}, {328: 256, 592: 0}),
+    "old-item-in-place": (OLD_PAGE, [("resize_in_place", 592, 248, 6, 0), ("resize_in_place", 592, 257, 6, 0),
+                                     ("resize_in_place", 592, 249, 0, 592), ("resize", 328, 251, 0, 328)],
+                          {24: 4552, 296: 800, 320: 32255, 584: 31999}, {328: 251, 592: 249}),
+    "old-item-moved": (OLD_PAGE, OLD_STALE + [("move", 592, 256, 0, 4560)],
+                       {24: 4824, 296: 536, 584: 12925, 4552: 274, 4800: 0x4444444444444444, 4808: 0x5555, 4816: 274, 4824: 5176},
+                       {592: 0, 4560: 256}),
+    "old-item-without-a-size-moved": (OLD_PAGE, OLD_STALE + [("put", 584, 127, 0, 0), ("move", 592, 249, 0, 4560)],
+                                      {296: 536, 4552: 274, 4800: 0x4444444444444444, 4808: 0x55}, {592: 0, 4560: 256}),
+    "old-item-to-a-closed-class": (OLD_PAGE, [("resize", 592, 248, 0, 4560)], {296: 536, 584: 12925, 4552: 266, 4808: 266},
+                                   {4560: 248}),
+    "old-item-to-an-offered-class": (OLD_PAGE, [("resize", 592, 128, 0, 4568)], {296: 536, 584: 12925, 4552: 4235, 4560: 16447},
+                                     {4568: 128}),
+    "old-item-to-257": (OLD_PAGE, [("resize", 592, 257, 0, 4560)], {296: 536, 584: 12925, 4552: 282}, {4560: 264}),
+    "free-items-wait": (OLD_PAGE, [("free", 592, 0, 0), ("allocate", 250, 0, 4560), ("allocate", 129, 0, 4832)],
+                        {24: 4976, 296: 536, 584: 12925, 848: 17149, 4552: 274, 4824: 154}, {592: 0, 4560: 256, 4832: 136}),
+    "free-items-wait-without-room": (OLD_PAGE_ALONE, [("allocate", 256, 6, 0), ("move", 592, 256, 6, 0), ("resize", 592, 257, 6, 0),
+                                                      ("resize", 592, 249, 0, 592), ("resize", 328, 200, 0, 328)],
+                                     {24: 0, 296: 800, 320: 32895, 584: 31999}, {328: 256, 592: 249}),
+    "old-page-linked-anew": ((10000, OLD_RECORDS + [("allocate", 253, 0, 856)]), [
+        ("free", 328, 0, 0), ("free", 592, 0, 0), ("sweep", 0, 0), ("sweep", 0, 0)],
+                             {24: 4552, 296: 272, 312: 4243, 320: 8701, 584: 17149, 4280: 125}, {328: 0, 592: 0, 856: 253}),
+    "old-page-given-back": (OLD_PAGE, [("free", 592, 0, 0), ("free", 328, 0, 0), ("sweep", 0, 1), ("sweep", 0, 0),
+                                       ("allocate", 256, 0, 320)],
+                            {24: 584, 296: 0, 312: 274, 4544: 4243, 4552: 5448, 584: 9416, 9992: 9416}, {320: 256}),
     "sweep-of-no-heap": (10000, [("sweep", 2, 0)], {}, {}),
     "sweep-of-a-damaged-heap": (10000, TWO_PAGES + [("put", 312, 4227, 3, 0), ("sweep", 3, 0)], {}, {}),
 }, HAND: {
@@ -905,11 +983,28 @@ FIGURES = {WIDE: {
 }}
 
 
+def answers(steps, do):
+    """What each step answers, beside what it should."""
+    for name, *numbers, refusal, address in steps:
+        yield do(name, *numbers), (refusal, address)
+
+
+def start_of(shape, figure):
+    """The bytes that a figure begins with."""
+    start, *_ = FIGURES[shape][figure]
+    if isinstance(start, int):
+        return bytes(start)
+    length, steps = start
+    heap = Heap(bytearray(length), BEFORE)
+    for got, wanted in answers(steps, heap.do):
+        assert got == wanted, f"{figure}: {got} instead of {wanted} by the rule before"
+    return bytes(heap.data)
+
+
 def played(figure, heap, do):
     """What each step of a figure answers, each word is then and each look-up shows, beside what 01 and 02 say."""
     _, steps, words, shown = FIGURES[heap.shape][figure]
-    for name, *numbers, refusal, address in steps:
-        yield do(name, *numbers), (refusal, address)
+    yield from answers(steps, do)
     for position, value in words.items():
         yield heap.word_at(position), value
     for address, length in shown.items():
@@ -944,7 +1039,8 @@ class SelfTest:
     def shapes(self):
         """What follows from the few numbers of a shape is what the documents tell."""
         for shape, index_page, data_area, tag, free, variable, spare, shortest in (
-                (WIDE, 48, 312, 275, 32, 280, (0, 8, 16, 24), 344), (HAND, 28, 96, 75, 16, 144, (0, 8), 112)):
+                (WIDE, 48, 312, 275, 32, 152, (0, 8, 16, 24), 344), (BEFORE, 48, 312, 275, 32, 280, (0, 8, 16, 24), 344),
+                (HAND, 28, 96, 75, 16, 144, (0, 8), 112)):
             self.same((shape.index_page, shape.data_area), (index_page, data_area))
             self.same([*shape.fixed_words(1000).values()], [data_area, index_page, 1000, tag, tag])
             self.same((shape.smallest_free, shape.smallest_variable, tuple(shape.spare)), (free, variable, spare))
@@ -953,7 +1049,12 @@ class SelfTest:
         self.same([*HAND.fixed_words(0)], [8, 12, 20, 24, 92])
         self.same([WIDE.items_in_page(c) for c in (0, 1, 15, 31)], [257, 171, 31, 16])
         self.same([(HAND.items_in_page(c), HAND.item_size(c)) for c in (0, 15)], [(2, 12), (2, 132)])
-        self.same((HAND.smallest_page, HAND.largest_item, WIDE.largest_item), (32, 128, 256))
+        self.same([shape.smallest_page for shape in (WIDE, BEFORE, HAND)], [4120, 4120, 32])
+        self.same([shape.largest_item for shape in (WIDE, BEFORE, HAND)], [128, 256, 128])
+        self.same([shape.largest_capacity for shape in (WIDE, BEFORE, HAND)], [256, 256, 128])
+        self.same([[*shape.closed] for shape in (WIDE, BEFORE, HAND)], [[*range(16, 32)], [], []])
+        self.same(shape_of(start_of(WIDE, "old-page")), WIDE)
+        self.same([pickle.loads(pickle.dumps(shape)) is shape for shape in (WIDE, BEFORE, HAND)], 3 * [True])
 
     def short_heaps(self):
         self.same(Heap(bytearray(343)).initialise(), (BAD_LENGTH, 0))
@@ -962,7 +1063,9 @@ class SelfTest:
         self.same(heap.allocate(1), (NO_ROOM, 0))
         self.same(self.blocks(self.fresh(112, HAND)), [("free", 96, 16, 0, 0)])
         self.same(self.fresh(351).word_at(32), 344)
-        for shape, size, length in ((WIDE, 256, 4552), (WIDE, 1, 4440), (HAND, 128, 368), (HAND, 1, 128)):
+        for shape, size, length in (
+                (WIDE, 256, 584), (WIDE, 129, 464), (WIDE, 128, 4544), (WIDE, 1, 4440), (BEFORE, 256, 4552), (BEFORE, 1, 4440),
+                (HAND, 128, 368), (HAND, 1, 128)):
             self.same(self.fresh(length, shape).allocate(size)[0], GRANTED)
             self.same(self.fresh(length - 1, shape).allocate(size), (NO_ROOM, 0))
 
@@ -986,6 +1089,13 @@ class SelfTest:
         self.same((heap.allocate(300), heap.allocate(16)), ((GRANTED, 100), (GRANTED, 416)))
         self.same(self.blocks(heap), [("variable", 96, 312), ("page", 408, 48, 1), ("free", 456, 544, 0, 0)])
         self.same(heap.statistics(), (GRANTED, (544, 1, 544, 1, 1, 1), [[0, 0, 0], [1, 1, 1]] + 14 * [[0, 0, 0]]))
+        return heap
+
+    def old_heap_with_two(self):
+        """The old page with records of 256 and 250 bytes, under the new rule."""
+        heap = Heap(bytearray(start_of(WIDE, "old-page")))
+        self.same(self.blocks(heap), [("page", 312, 4240, 31), ("free", 4552, 5448, 0, 0)])
+        self.same(heap.statistics(), (GRANTED, (5448, 1, 5448, 0, 1, 2), 31 * [[0, 0, 0]] + [[1, 2, 14]]))
         return heap
 
     def blocks_in_a_hole(self):
@@ -1040,7 +1150,9 @@ class SelfTest:
         return heap.resize(address, size), heap.data
 
     def resizes_in_two(self):
-        """The two ways agree for every size that matters, on a heap with room, one with an older item, and one with little room."""
+        """The two ways agree for every size that matters, on a heap with room, one with an older item, one with little room,
+        and an old one with room and without."""
+        cases = []
         for with_two, first, second, tight_length in (
                 (self.heap_with_two, 320, 648, 1000), (self.hand_heap_with_two, 100, 416, 410)):
             roomy, older = with_two(), with_two()
@@ -1048,39 +1160,67 @@ class SelfTest:
             tight = self.fresh(tight_length, shape)
             self.same(older.put(second - shape.word, used_header(class_of(16), 0)), (GRANTED, 0))
             self.same(tight.allocate(300), (GRANTED, first))
-            sizes = (*range(700), 5240, shape.largest_size, shape.largest_size + 1)
-            for heap, address in ((roomy, first), (roomy, second), (roomy, second + 8), (older, second), (tight, first)):
-                differing = [size for size in sizes if self.resized_in_two(heap, address, size)
-                             != self.resized_at_once(heap, address, size)]
-                self.same(differing, [])
+            cases += [(roomy, first), (roomy, second), (roomy, second + 8), (older, second), (tight, first)]
+        old, tight = self.old_heap_with_two(), Heap(bytearray(start_of(WIDE, "free-items-wait-without-room")))
+        for heap, address in (*cases, (old, 328), (old, 592), (old, 856), (tight, 592)):
+            sizes = (*range(700), 5240, heap.shape.largest_size, heap.shape.largest_size + 1)
+            differing = [size for size in sizes if self.resized_in_two(heap, address, size)
+                         != self.resized_at_once(heap, address, size)]
+            self.same(differing, [])
+
+    def five_pages(self, shape, size):
+        """A heap with five pages of a class, of which the first records are freed, and the free items as a sweep links them:
+        those of pages with most live items first, of the lower of two equal ones before the other's."""
+        heap = self.fresh(30000, shape)
+        count = shape.items_in_page(class_of(size))
+        pages = [[heap.allocate(size)[1] for _ in range(count)] for _ in range(5)]
+        for page, live in zip(pages, (2, 5, 2, count, 5)):
+            for address in page[:count - live]:
+                heap.free(address)
+        return heap, [address for page, live in ((1, 5), (4, 5), (0, 2), (2, 2)) for address in pages[page][:count - live]]
 
     def sweeps(self):
-        """Five pages of class 31: those with most live items are used up first, the lower of two equal ones before the other."""
-        heap = self.fresh(30000)
-        pages = [[heap.allocate(256)[1] for _ in range(16)] for _ in range(5)]
-        for page, live in zip(pages, (2, 5, 2, 16, 5)):
-            for address in page[:16 - live]:
-                heap.free(address)
-        self.same(heap.sweep(), (GRANTED, 0))
-        before = bytes(heap.data)
-        self.same(heap.sweep(), (GRANTED, 0))
-        self.same(bytes(heap.data), before)
-        wanted = pages[1][:11] + pages[4][:11] + pages[0][:14] + pages[2][:14]
-        self.same([heap.allocate(256)[1] for _ in wanted], wanted)
+        """A sweep's lists are used up in their order; a second sweep changes nothing."""
+        for shape, size in ((WIDE, 128), (BEFORE, 256)):
+            heap, wanted = self.five_pages(shape, size)
+            self.same(heap.sweep(), (GRANTED, 0))
+            before = bytes(heap.data)
+            self.same(heap.sweep(), (GRANTED, 0))
+            self.same(bytes(heap.data), before)
+            self.same([heap.allocate(size)[1] for _ in wanted], wanted)
+
+    def old_sweeps(self):
+        """Pages of a closed class are swept as they were by the rule before, and leave when their last record is freed."""
+        before, free_items = self.five_pages(BEFORE, 256)
+        heap = Heap(bytearray(before.data))
+        self.same((heap.sweep(), before.sweep()), ((GRANTED, 0), (GRANTED, 0)))
+        self.same(heap.data, before.data)
+        self.same([item + 8 for item in heap.state.lists[31]], free_items[::-1])
+        block = heap.allocate(256)[1]
+        for address in set(heap.state.live_addresses()) - {block}:
+            self.same(heap.free(address), (GRANTED, 0))
+        self.same(heap.sweep(), (GRANTED, 5))
+        self.same(heap.statistics()[1:], ((29416, 2, 21200, 1, 0, 0), 32 * [[0, 0, 0]]))
 
     def figures(self):
         """Those that are run on the libraries too; answers the heaps that they leave."""
         heaps = {}
         for shape, figures in FIGURES.items():
-            for figure, (length, *_) in figures.items():
-                heap = heaps[shape, figure] = Heap(bytearray(length), shape)
-                for got, wanted in played(figure, heap, lambda name, *numbers: getattr(heap, name)(*numbers)):
+            for figure in figures:
+                heap = heaps[shape, figure] = Heap(bytearray(start_of(shape, figure)), shape)
+                for got, wanted in played(figure, heap, heap.do):
                     self.same(got, wanted)
         return heaps
 
+    def still_sound(self, heaps):
+        """All that the figures of the rule before leave is sound, even the block of 272 that this rule refused."""
+        for heap in (heap for (shape, _), heap in heaps.items() if shape == BEFORE):
+            self.same(Heap(heap.data).verdict, GRANTED)
+
     def reading(self):
         heaps = self.figures()
-        self.same(self.blocks(heaps[WIDE, "block-of-280"])[0], ("variable", 312, 280))
+        self.still_sound(heaps)
+        self.same(self.blocks(heaps[WIDE, "block-of-152"])[0], ("variable", 312, 152))
         heap = heaps[WIDE, "page-at-312"]
         self.same(heap.statistics()[2][1], [1, 1, 170])
         self.same(heap.initialise(), (ALREADY, 0))
@@ -1099,6 +1239,7 @@ class SelfTest:
         self.resizes_without_change()
         self.resizes_in_two()
         self.sweeps()
+        self.old_sweeps()
         self.reading()
         self.call_lists()
         return self.count

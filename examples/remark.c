@@ -62,7 +62,7 @@ int main(void)
     resize("remark", remark, 8);
     resize("remark", remark, 72); /* as many as it can hold: this length is kept from now on, in its header */
     resize("remark", remark, 73);
-    resize("letter", letter, 256); /* so would this one */
+    resize("letter", letter, 128); /* so would this one */
     resize("letter", letter, 1000);
     printf("remark: %s\nletter: %s\n", (const char *)heap + remark, (const char *)heap + letter);
     return 0;

@@ -5,9 +5,14 @@
    buffer, 0 where the call gives none; a sweep answers a number of pages in its stead. Every call checks the whole heap
    first. A refused call leaves every byte as it was. Calls are safe for all bytes, addresses and sizes.
 
-   A record is as long as was asked for. Of one of up to 256 bytes the heap keeps that length: it is what a look-up
+   A record is as long as was asked for. Of one of up to 128 bytes the heap keeps that length: it is what a look-up
    shows, and a move carries no more bytes along, so what is written behind it may be lost. Heaps of versions before 1.3
    stay sound; they keep no lengths, and there a record counts with all that it holds until it is given a size anew.
+
+   Records of up to 128 bytes stand in pages of one size class each, longer ones in blocks of their own. Up to version
+   1.5 those of 129 to 256 bytes stood in pages too. Such heaps stay sound: these records stay in their pages, with the
+   lengths that are kept of them, until they are freed or moved; within its class (the 8 sizes that round up to the same
+   multiple of 8) one can be resized where it stands. No record joins them, and a sweep gives their empty pages back.
 
    Opening a buffer: call jagwibodu_check. 0: it holds a sound heap, go on. 2: it holds none, call jagwibodu_initialise.
    3: it holds a damaged one; to start anew clear its first 8 bytes, and then initialise (which else answers 7).
@@ -59,8 +64,8 @@ uint64_t jagwibodu_move(uint8_t *buffer, size_t length, uint64_t address, uint64
    Refused with 1 to 6; then the record stays as it was. */
 uint64_t jagwibodu_resize(uint8_t *buffer, size_t length, uint64_t address, uint64_t size);
 
-/* Gives the record at `address` back. Refused with 1, 2, 3 or 5. Records of up to 256 bytes stand in pages of one size
-   class each; a page stays one for its class, even when its last record is gone, until the next sweep. */
+/* Gives the record at `address` back. Refused with 1, 2, 3 or 5. A page stays one for its class, even when its last
+   record is gone, until the next sweep. */
 uint64_t jagwibodu_free(uint8_t *buffer, size_t length, uint64_t address);
 
 /* Makes free room again of every page that holds no record, and answers how many these were. The records that are made

@@ -9,7 +9,7 @@
 extern "C" {
 #endif
 
-#define JAGWIBODU_VERSION "1.5"
+#define JAGWIBODU_VERSION "1.6"
 
 enum jagwibodu_refusal {
     JAGWIBODU_GRANTED = 0,

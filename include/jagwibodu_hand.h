@@ -3,10 +3,9 @@
    simulator, and for whoever reads a hand unit's heap on another machine.
 
    All is as jagwibodu.h says of the console's heap, but for these: a buffer has JAGWIBODU_HAND_SHORTEST to
-   JAGWIBODU_HAND_LONGEST bytes; records of up to 128 bytes stand two and two in pages, and of these the heap keeps the
-   length that was asked for; addresses are multiples of 4 from the buffer's start. A heap of the one kind is refused by
-   the calls of the other with JAGWIBODU_NOT_OPENED, since its first 8 bytes differ. The archives for both may be linked
-   into one program. */
+   JAGWIBODU_HAND_LONGEST bytes; a page holds two records, and those of more than 128 bytes never stood in pages;
+   addresses are multiples of 4 from the buffer's start. A heap of the one kind is refused by the calls of the other
+   with JAGWIBODU_NOT_OPENED, since its first 8 bytes differ. The archives for both may be linked into one program. */
 #ifndef JAGWIBODU_HAND_H
 #define JAGWIBODU_HAND_H
 

@@ -14,6 +14,8 @@ pub record Good (S : Shape) : Type 0 where
   -- two tags, and a page, take multiples of 8 bytes
   pub tags : tags S % 8 ≡ 0
   pub pages : (c : ℕ) → pageNeed S c % 8 ≡ 0
+  -- what is handed out are classes that there are
+  pub offered : S .offered ≤ S .classes
   -- a variable block that is given back is large enough to be free
   pub larger : leastFree S ≤ leastVariable S
 
@@ -24,5 +26,6 @@ shape-good {w} k =
       fits = words-fit k;
       tags = omega arith;
       pages = page-eight k;
+      offered = omega arith;
       larger = omega arith;
     }

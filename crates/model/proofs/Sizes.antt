@@ -5,7 +5,7 @@ use native.Mathlib.Nat.{div-le-self, div-mul-le-self, mul-le-mul-left}
 use native.Mathlib.Omega.{arith}
 use Rattle.words.specs.Width.{Width}
 use Rattle.words.proofs.WidthLaws.{widths}
-use Rattle.model.specs.Shape.{shape, up8, start, index, leastVariable, needOf, itemSize, pageNeed}
+use Rattle.model.specs.Shape.{shape, up8, start, index, leastVariable, largestItem, needOf, itemSize, pageNeed}
 use Rattle.model.specs.Parts.{freeHeader, heldHeader, nextIn}
 
 -- a size above a multiple of 8 is rounded up to the next at least
@@ -108,6 +108,6 @@ heads-room w c l = mul-le-mul-left w l
 pub end-room : {w : ℕ} → Width w → (n : ℕ) → start (shape w) + 4 * w ≤ n → start (shape w) + 4 * w ≤ n / 8 * 8
 end-room {w} k n = widths (λ w. start (shape w) + 4 * w ≤ n → start (shape w) + 4 * w ≤ n / 8 * 8) (omega arith) (omega arith) w k
 
--- a size above the largest item needs a block that is large enough
-pub need-sized : {w : ℕ} → Width w → (n : ℕ) → 32 * w < n → (leastVariable (shape w) ≤ needOf (shape w) n) × (needOf (shape w) n % 8 ≡ 0)
-need-sized {w} k n = widths (λ w. 32 * w < n → (leastVariable (shape w) ≤ needOf (shape w) n) × (needOf (shape w) n % 8 ≡ 0)) (omega arith) (omega arith) w k
+-- a size above the largest item that is handed out needs a block that is large enough
+pub need-sized : {w : ℕ} → Width w → (n : ℕ) → largestItem (shape w) < n → (leastVariable (shape w) ≤ needOf (shape w) n) × (needOf (shape w) n % 8 ≡ 0)
+need-sized {w} k n = widths (λ w. largestItem (shape w) < n → (leastVariable (shape w) ≤ needOf (shape w) n) × (needOf (shape w) n % 8 ≡ 0)) (omega arith) (omega arith) w k

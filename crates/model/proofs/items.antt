@@ -9,3 +9,4 @@ pub mod Offsets
 pub mod Aligned
 pub mod PageWords
 pub mod Paged
+pub mod ItemPlaces

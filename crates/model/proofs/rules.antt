@@ -2,8 +2,10 @@ pub mod Fresh
 pub mod Allocation
 pub mod Sized
 pub mod Room
+pub mod Before
 pub mod OnLayouts
 pub mod ResizeWays
+pub mod Closed
 pub mod Twins
 pub mod TwinCalls
 pub mod Figures

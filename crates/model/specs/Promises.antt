@@ -6,10 +6,10 @@ use mathlib.Core.List.{List, [], _∷_}
 use mathlib.Core.Option.{none}
 use lib.ListN.{length, getD, take}
 use Rattle.model.specs.Picture.{Word}
-use Rattle.model.specs.Shape.{Shape, start, largestItem, classOf, needOf, pageNeed}
+use Rattle.model.specs.Shape.{Shape, allOffered, start, largestItem, classOf, needOf, pageNeed, addressOf, itemAt}
 use Rattle.model.specs.Layout.{free, Layout, words}
 use Rattle.model.specs.Sound.{Sound, Valid, Here}
-use Rattle.model.specs.Rules.{nothing, find, stays}
+use Rattle.model.specs.Rules.{Found, block, thing, nothing, find, stays}
 use Rattle.model.specs.Live.{_∈_, InTurn, Payload, content, live}
 use Rattle.model.specs.Reading.{Step, Statistics, counted, lookedUp}
 use Rattle.model.specs.Sweeping.{empties}
@@ -46,6 +46,16 @@ lookUpNumbers = 0 ∷ badLength ∷ notOpened ∷ notSound ∷ notLive ∷ []
 pub record Reply : Type 0 where
   pub refusal : ℕ
   pub address : ℕ
+
+-- the item at offset o is free, on the list of class c
+abbrev pub Waits : ℕ → ℕ → Layout → Type 0
+Waits c o L = o ∈ getD (L .lists) c []
+
+-- an item was found
+abbrev pub IsItem : Found → Type 0
+IsItem (block t) = ⊥
+IsItem (thing o c n) = Unit {0}
+IsItem nothing = ⊥
 
 module _ (S : Shape) where
   -- what may come of a call on bytes b
@@ -92,6 +102,13 @@ module _ (S : Shape) where
 
   abbrev pub OneLayout : Type 0
   OneLayout = (b : List ℕ) (L L′ : Layout) → Here S b L → Here S b L′ → L ≡ L′
+
+  -- a heap that was sound by the rule before is sound; it has the same layout, and the same is live
+  abbrev pub SoundBefore : Type 0
+  SoundBefore = (b : List ℕ) → Sound (allOffered S) b → Sound S b
+
+  abbrev pub LayoutBefore : Type 0
+  LayoutBefore = (b : List ℕ) (L : Layout) → Here (allOffered S) b L → Here S b L × (live (allOffered S) L ≡ live S L)
 
   -- no call makes a sound heap unsound, and a heap that is opened is sound
   abbrev pub StaysSound : Type 0
@@ -167,18 +184,28 @@ module _ (S : Shape) where
   abbrev pub ResizeKeeps : (ℕ → ℕ → Call) → Type 0
   ResizeKeeps form = (b : List ℕ) (a n : ℕ) (r : Outcome) (L L′ : Layout) → Grants b (form a n) r L L′ → ResizeKept b a n L r L′
 
+  -- what a call grants for n bytes is an item: n has a class that is handed out, or the item at a stays, of a closed class too
+  abbrev pub ForItem : Call → ℕ → Layout → Type 0
+  ForItem q n L = (n ≤ largestItem S) ⊎ ((a : ℕ) × (q ≡ resizingBy staying a n) × IsItem (find S a L))
+
   -- an item that is granted for n bytes shows n bytes: by allocate, in place and by a move; by resize, unless the record was kept and no byte changed
   abbrev pub ShownAt : Layout → ℕ → ℕ → Type 0
   ShownAt L a n = (x : Payload) × (x ∈ live S L) × (x .address ≡ a) × (x .shown ≡ n)
 
   abbrev pub GrantShows : Call → ℕ → Type 0
-  GrantShows q n = (b : List ℕ) (r : Outcome) (L L′ : Layout) → Grants b q r L L′ → n ≤ largestItem S → ShownAt L′ (r .address) n
+  GrantShows q n = (b : List ℕ) (r : Outcome) (L L′ : Layout) → Grants b q r L L′ → ForItem q n L → ShownAt L′ (r .address) n
 
   abbrev pub AskedShown : Type 0
   AskedShown =
       (a n : ℕ)
       → GrantShows (allocating n) n × GrantShows (resizingBy staying a n) n × GrantShows (resizingBy moving a n) n
       × ((b : List ℕ) (r : Outcome) (L L′ : Layout) → Grants b (resizing a n) r L L′ → n ≤ largestItem S → ShownAt L′ (r .address) n ⊎ (r ≡ granted a b))
+
+  -- a free item of a closed class is never handed out: every granted call but a sweep leaves it on its list, and none answers its address
+  abbrev pub ClosedWait : Type 0
+  ClosedWait =
+      (b : List ℕ) (q : Call) (r : Outcome) (L L′ : Layout) → Grants b q r L L′ → (q ≡ sweeping → ⊥)
+      → (c o : ℕ) → S .offered ≤ c → Waits c o L → Waits c o L′ × (r .address ≡ addressOf S (itemAt S o) → ⊥)
 
   -- no more is shown of a payload than it holds
   abbrev pub ShownWithin : Type 0
@@ -286,6 +313,8 @@ module _ (S : Shape) where
     pub reading-answers-only : ReadingAnswersOnly
     pub accepts-exactly : AcceptsExactly
     pub one-layout : OneLayout
+    pub sound-before : SoundBefore
+    pub layout-before : LayoutBefore
     pub stays-sound : StaysSound
     pub opens-sound : OpensSound
     pub no-overlap : NoOverlap
@@ -299,6 +328,7 @@ module _ (S : Shape) where
     pub resize-keeps : ResizeKeeps resizing
     pub each-way-keeps : (v : Way) → ResizeKeeps (resizingBy v)
     pub asked-shown : AskedShown
+    pub closed-wait : ClosedWait
     pub in-place-stays : InPlaceStays
     pub move-moves : MoveMoves
     pub split-gives : SplitGives

@@ -1,6 +1,6 @@
 -- Document 01's rules, on layouts.
 use Prim.Native.Nat.{ℕ, _+_, _-_}
-use mathlib.Core.Bool.{cond, _&&_}
+use mathlib.Core.Bool.{cond}
 use mathlib.Core.List.{List, [], _∷_, _++_}
 use mathlib.Core.Option.{Option, none, some}
 use lib.ListN.{getD, set, replicate}
@@ -193,7 +193,7 @@ module _ (S : Shape) where
   -- the layout where the record stays, or none where it moves
   unfoldable pub stays : ℕ → Found → Layout → Option Layout
   stays n nothing L = none
-  stays n (thing o c k) L = cond (leb n (largestItem S) && eqb (classOf n) c) (some (renewed n o L)) none
+  stays n (thing o c k) L = cond (eqb (classOf n) c) (some (renewed n o L)) none
   stays n (block t) L =
       let need = needOf S n in
       let here = cond (leb need (t .size)) (some (shrunk need (t .size) (t .post))) (grown need (t .size) (t .post)) in

@@ -6,8 +6,9 @@ use lib.Dec.{eqb}
 pub record Shape : Type 0 where
   -- the bytes of a word
   pub word : ℕ
-  -- how many classes of items there are
+  -- how many classes of items there are; and how many of them, the lowest, are handed out: the others are closed
   pub classes : ℕ
+  pub offered : ℕ
   -- the items of a page of each class
   pub perPage : ℕ → ℕ
   -- the longest heap, and the largest size that can be asked for
@@ -15,12 +16,13 @@ pub record Shape : Type 0 where
   -- the magic number, as its eight bytes make one word
   pub magic : ℕ
 
--- the heap with words of w bytes: document 01's at 8, the hand unit's at 4
+-- the heap with words of w bytes: document 01's at 8, its upper classes closed, and the hand unit's at 4
 abbrev pub shape : ℕ → Shape
 shape w =
     record {
       word = w;
       classes = 4 * w;
+      offered = 16;
       perPage = λ c. cond (eqb w 8) (4096 / (8 * c + 16) + 1) 2;
       most = cond (eqb w 8) 1048576 65536;
       magic = cond (eqb w 8) 0x01636f6c6c617978 0x02636f6c6c617978;
@@ -32,6 +34,10 @@ wide = shape 8
 
 abbrev pub hand : Shape
 hand = shape 4
+
+-- the same heap with every class handed out: the rule before any was closed
+abbrev pub allOffered : Shape → Shape
+allOffered S = record { word = S .word; classes = S .classes; offered = S .classes; perPage = S .perPage; most = S .most; magic = S .magic }
 
 -- the end of a heap of n bytes: n rounded down to a multiple of 8; and n rounded up to one
 abbrev pub endOf : ℕ → ℕ
@@ -65,9 +71,9 @@ module _ (S : Shape) where
   abbrev pub shortest : ℕ
   shortest = start + leastFree
 
-  -- the largest item's payload: a size above it has a block of its own
+  -- the largest payload of an item that is handed out: a size above it has a block of its own
   abbrev pub largestItem : ℕ
-  largestItem = 8 * S .classes
+  largestItem = 8 * S .offered
 
   -- what a block for a size needs, and the least of these
   abbrev pub needOf : ℕ → ℕ

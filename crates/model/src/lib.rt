@@ -200,12 +200,18 @@ pub fn start(w: usize) -> Position
 // The classes of the heap that has the most: an array's length is a constant.
 pub const MOST_CLASSES: usize = 32;
 
-// How many classes there are; where the list of class c begins, in the index page.
+// How many classes there are; how many of them, the lowest, are handed out; where the list of class c begins, in the index page.
 pub fn classes(w: usize) -> usize
     requires { ⌜ Width w ⌝ }
     ensures { λ r. ⌜ r ≡ shape w .classes ⌝ }
 {
     4 * w
+}
+
+pub fn offered(w: usize) -> usize
+    ensures { λ r. ⌜ r ≡ shape w .offered ⌝ }
+{
+    16
 }
 
 pub fn head_at(w: usize, c: usize) -> Position
@@ -264,7 +270,7 @@ pub fn first_item_at(w: usize, p: Position) -> Position
     Position(p.0 + w)
 }
 
-// The least free block, and the least remainder that stays free; the least variable block; the largest item.
+// The least free block, and the least remainder that stays free; the least variable block; the largest item that is handed out.
 pub fn least_free(w: usize) -> usize
     requires { ⌜ Width w ⌝ }
     ensures { λ r. ⌜ r ≡ leastFree (shape w) ⌝ }
@@ -283,10 +289,10 @@ pub fn largest_item(w: usize) -> usize
     requires { ⌜ Width w ⌝ }
     ensures { λ r. ⌜ r ≡ largestItem (shape w) ⌝ }
 {
-    8 * classes(w)
+    8 * offered(w)
 }
 
-// What a variable block of size s holds; the whole size of a block for n bytes, a size above the largest item.
+// What a variable block of size s holds; the whole size of a block for n bytes, a size above the largest item that is handed out.
 pub fn block_capacity(w: usize, s: usize) -> usize
     requires { ⌜ Width w × (tags (shape w) ≤ s) ⌝ }
     ensures { λ r. ⌜ r ≡ blockCapacity (shape w) s ⌝ }

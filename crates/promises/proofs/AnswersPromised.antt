@@ -121,6 +121,7 @@ module _ {w : ℕ} (wd : Width w) where
         resize-keeps = λ b a n y c L L′ l h x k. promised wd .resize-keeps b a n (granted (y .0) c) L L′ (record { lent = l; here = h; comes = x; granted = refl; then = k });
         each-way-keeps = λ v b a n y c L L′ l h x k. promised wd .each-way-keeps v b a n (granted (y .0) c) L L′ (record { lent = l; here = h; comes = x; granted = refl; then = k });
         looked-up = looked-up wd;
+        closed-wait = λ b q a c L L′ l h x k z. promised wd .closed-wait b q (granted (a .0) c) L L′ (record { lent = l; here = h; comes = x; granted = refl; then = k }) z;
         in-place-stays = λ b a n y c x. promised wd .in-place-stays b a n (granted (y .0) c) x refl;
         move-moves = λ b a n y c x. promised wd .move-moves b a n (granted (y .0) c) x refl;
         no-room-exactly = λ b n r c L l h one most.

@@ -13,7 +13,7 @@ use Rattle.model.specs.Sound.{Here}
 use Rattle.model.specs.Rules.{Made, allocate, find, stays}
 use Rattle.model.specs.Live.{_∈_, Payload, live}
 use Rattle.model.specs.Calls.{staying, moving, Outcome, granted, Lent, drawn, placed, made, movedBytes, resized, resizedBy}
-use Rattle.model.specs.Promises.{allocating, resizingBy, Comes, ShownAt, GrantShows, AskedShown}
+use Rattle.model.specs.Promises.{allocating, resizingBy, Comes, IsItem, ShownAt, GrantShows, AskedShown}
 use Rattle.model.proofs.Good.{shape-good}
 use Rattle.model.proofs.rules.Allocation.{allocate-grants}
 use Rattle.model.proofs.lives.StayLives.{stays-stayed}
@@ -28,77 +28,88 @@ use Rattle.promises.proofs.Moved.{moved-here, moved-shown}
 use Rattle.promises.proofs.Places.{was-there}
 
 module _ {w : ℕ} (wd : Width w) (n : ℕ) where
-  -- an outcome leaves a heap in which a payload at its address shows n bytes, where that is an item's size
-  record Shown (r : Outcome) : Type 0 where
+  -- an outcome leaves a heap in which a payload at its address shows n bytes, where it is an item
+  record Shown (Item : Type 0) (r : Outcome) : Type 0 where
     layout : Layout
     here : Here (shape w) (r .heap) layout
     payload : Payload
     there : payload ∈ live (shape w) layout
     at : payload .address ≡ r .address
-    shown : n ≤ largestItem (shape w) → payload .shown ≡ n
+    shown : Item → payload .shown ≡ n
+
+  -- a new item, where n has a class that is handed out; one that stays at a, of any class
+  abbrev New : Type 0
+  New = n ≤ largestItem (shape w)
+
+  abbrev Staying : ℕ → Layout → Type 0
+  Staying a L = New ⊎ IsItem (find (shape w) a L)
 
   -- whatever layout the heap is said to have
-  shown-at : {r o : Outcome} → r ≡ o → Shown o → (N : Layout) → Here (shape w) (r .heap) N → n ≤ largestItem (shape w) → ShownAt (shape w) N (r .address) n
-  shown-at {r} {o} e s N h l =
+  shown-at : {Item : Type 0} {r o : Outcome} → r ≡ o → Shown Item o → (N : Layout) → Here (shape w) (r .heap) N → Item → ShownAt (shape w) N (r .address) n
+  shown-at {Item} {r} {o} e s N h l =
       let k : Here (shape w) (o .heap) N = subst (λ (y : Outcome). Here (shape w) (y .heap) N) e h in
       (s .payload, subst (λ (M : Layout). s .payload ∈ live (shape w) M) (one-layout wd (o .heap) (s .layout) N (s .here) k) (s .there), s .at ∙ sym (ap (λ (y : Outcome). y .address) e), s .shown l)
 
   module _ (b : List ℕ) (L : Layout) (l : Lent (shape w) b) (h : Here (shape w) b L) (one : 1 ≤ n) where
-    allocated-shown : (m : Made) → allocate (shape w) n L ≡ some m → Shown (granted (m .at) (drawn (shape w) (m .layout) b))
+    allocated-shown : (m : Made) → allocate (shape w) n L ≡ some m → Shown New (granted (m .at) (drawn (shape w) (m .layout) b))
     allocated-shown m e =
         let k = allocate-grants (shape w) (endOf (length b)) n (shape-good wd) one L m (h .valid) e in
         record { layout = m .layout; here = draws wd b L l h (m .layout) (k .valid); payload = k .payload; there = k .adds .there; at = k .at; shown = k .shown }
 
     module _ (a : ℕ) where
-      stayed-shown : (M : Layout) → stays (shape w) n (find (shape w) a L) L ≡ some M → Shown (granted a (drawn (shape w) M b))
+      stayed-shown : (M : Layout) → stays (shape w) n (find (shape w) a L) L ≡ some M → Shown (Staying a L) (granted a (drawn (shape w) M b))
       stayed-shown M e =
           let k = stays-stayed (shape w) (shape-good wd) n a one (h .valid) M e in
           record { layout = M; here = draws wd b L l h M (k .valid); payload = k .payload; there = k .there; at = k .at; shown = k .shown }
 
-      elsewhere-shown : isThere (find (shape w) a L) ≡ 1 → (m : Made) → allocate (shape w) n L ≡ some m → Shown (granted (m .at) (movedBytes (shape w) b a n L m))
+      elsewhere-shown : isThere (find (shape w) a L) ≡ 1 → (m : Made) → allocate (shape w) n L ≡ some m → Shown New (granted (m .at) (movedBytes (shape w) b a n L m))
       elsewhere-shown i m e =
           let k = moved-shown wd b L l h a n one m e i in
           record { layout = _; here = moved-here wd b L l h a n one m e i; payload = k .0; there = k .1; at = k .2; shown = k .3 }
 
       -- wherever a granted resize led
-      went-shown : {o : Outcome} {d : Done} → Went (shape w) b a n L o d → o .refusal ≡ 0 → Shown o ⊎ (o ≡ granted a b)
+      went-shown : {o : Outcome} {d : Done} → Went (shape w) b a n L o d → o .refusal ≡ 0 → Shown New o ⊎ (o ≡ granted a b)
       went-shown (nowhere e) g = absurd (omega (arith, g))
-      went-shown (inPlace i M s) g = inl (stayed-shown M s)
+      went-shown (inPlace i M s) g =
+          let k = stayed-shown M s in
+          inl (record { layout = k .layout; here = k .here; payload = k .payload; there = k .there; at = k .at; shown = λ l. k .shown (inl l) })
       went-shown (elsewhere i m k) g = inl (elsewhere-shown i m k)
       went-shown (asItIs i c) g = inr refl
       went-shown (noWay i) g = absurd (omega (arith, g))
 
       -- in place, and by a move
-      placed-shown : (o : Option Layout) → stays (shape w) n (find (shape w) a L) L ≡ o → placed (shape w) b a o .refusal ≡ 0 → Shown (placed (shape w) b a o)
+      placed-shown : (o : Option Layout) → stays (shape w) n (find (shape w) a L) L ≡ o → placed (shape w) b a o .refusal ≡ 0 → Shown (Staying a L) (placed (shape w) b a o)
       placed-shown none e g = absurd (omega (arith, g))
       placed-shown (some M) e g = stayed-shown M e
 
-      made-shown : isThere (find (shape w) a L) ≡ 1 → (o : Option Made) → allocate (shape w) n L ≡ o → made (shape w) b o (movedBytes (shape w) b a n L) .refusal ≡ 0 → Shown (made (shape w) b o (movedBytes (shape w) b a n L))
+      made-shown : isThere (find (shape w) a L) ≡ 1 → (o : Option Made) → allocate (shape w) n L ≡ o → made (shape w) b o (movedBytes (shape w) b a n L) .refusal ≡ 0 → Shown New (made (shape w) b o (movedBytes (shape w) b a n L))
       made-shown i none e g = absurd (omega (arith, g))
       made-shown i (some m) e g = elsewhere-shown i m e
 
   allocate-shows : GrantShows (shape w) (allocating n) n
   unfolding Comes
-  allocate-shows b r L M g =
+  allocate-shows b r L M g f =
       let a = made-of wd b n L r (g .comes .sound (g .lent) L (g .here)) (g .granted) in
-      shown-at (a .is) (allocated-shown b L (g .lent) (g .here) (a .some-byte) (a .made) (a .found)) M (g .then)
+      shown-at (a .is) (allocated-shown b L (g .lent) (g .here) (a .some-byte) (a .made) (a .found)) M (g .then) (⊎-elim (λ l. l) (λ x. absurd (let k = x .1 in let z : _≡_ {A = ℕ} 0 1 = cc in omega (arith, z))) f)
 
   module _ (a : ℕ) where
     stay-shows : GrantShows (shape w) (resizingBy staying a n) n
     unfolding Comes
-    stay-shows b r L M g =
+    stay-shows b r L M g f =
         let s = granted-size (shape w) b n (resizedBy (shape w) staying b a n L) r (g .comes .sound (g .lent) L (g .here)) (g .granted) in
         let i = was-there (shape w) b a n L (went-by (shape w) b a n L staying) (sym (ap (λ (o : Outcome). o .refusal) (s .1)) ∙ g .granted) in
         let e = s .1 ∙ by-there (shape w) b a n L staying i in
         shown-at e (placed-shown b L (g .lent) (g .here) (s .0) a (stays (shape w) n (find (shape w) a L) L) refl (sym (ap (λ (o : Outcome). o .refusal) e) ∙ g .granted)) M (g .then)
+        (⊎-elim (λ l. inl l) (λ x. inr (subst (λ (y : ℕ). IsItem (find (shape w) y L)) (let k = x .1 in cc) (x .2))) f)
 
     move-shows : GrantShows (shape w) (resizingBy moving a n) n
     unfolding Comes
-    move-shows b r L M g =
+    move-shows b r L M g f =
         let s = granted-size (shape w) b n (resizedBy (shape w) moving b a n L) r (g .comes .sound (g .lent) L (g .here)) (g .granted) in
         let i = was-there (shape w) b a n L (went-by (shape w) b a n L moving) (sym (ap (λ (o : Outcome). o .refusal) (s .1)) ∙ g .granted) in
         let e = s .1 ∙ by-there (shape w) b a n L moving i in
         shown-at e (made-shown b L (g .lent) (g .here) (s .0) a i (allocate (shape w) n L) refl (sym (ap (λ (o : Outcome). o .refusal) e) ∙ g .granted)) M (g .then)
+        (⊎-elim (λ l. l) (λ x. absurd (let k = x .1 in let z : _≡_ {A = ℕ} 0 1 = cc in omega (arith, z))) f)
 
 pub asked-shown : {w : ℕ} → Width w → AskedShown (shape w)
 unfolding Comes

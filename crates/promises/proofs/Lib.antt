@@ -21,6 +21,7 @@ pub mod NoRoomExact
 pub mod Longer
 pub mod Doing
 pub mod LookedUp
+pub mod ClosedWait
 pub mod Promised
 pub mod OneResult
 pub mod OnePlay

@@ -6,13 +6,13 @@ use native.Mathlib.Omega.{arith}
 use lib.ListN.{length, drop, length-drop}
 use lib.Seq.{length-take-le}
 use Rattle.words.specs.Width.{Width}
-use Rattle.model.specs.Shape.{shape, largestItem, endOf}
+use Rattle.model.specs.Shape.{shape, endOf}
 use Rattle.model.specs.Layout.{Layout}
-use Rattle.model.specs.Sound.{Here, Sound}
+use Rattle.model.specs.Sound.{Here}
 use Rattle.model.specs.Live.{_∈_, Payload, content, live}
 use Rattle.model.specs.Reading.{lookedUp}
 use Rattle.model.specs.Calls.{staying, moving, keeping, granted, Lent}
-use Rattle.model.specs.Promises.{Call, initialising, checking, allocating, freeing, resizing, resizingBy, sweeping, Comes, GrantShows}
+use Rattle.model.specs.Promises.{Call, initialising, checking, allocating, freeing, resizing, resizingBy, sweeping, Comes, ForItem, GrantShows}
 use Rattle.model.specs.declared.Address.{Address}
 use Rattle.model.proofs.lives.Payloads.{in-area}
 use Rattle.model.proofs.rules.OnLayouts.{doing}
@@ -43,11 +43,11 @@ module _ {w : ℕ} (wd : Width w) where
       ap length (look-up-shows wd (endOf (length c)) c M (h .valid) x i)
       ∙ length-take-le (x .shown) (content c x) (omega (arith, whole, shown-within wd (endOf (length c)) M (h .valid) x i))
 
-  pub looked-up : (n : ℕ) (q : Call) → AsksFor n q → (b : List ℕ) (a : Address) (c : List ℕ) → Lent (shape w) b → Sound (shape w) b → Comes (shape w) b q (granted (a .0) c) → n ≤ largestItem (shape w) → (r : List ℕ) → PartTold w c (a .0) r → length r ≡ n
-  looked-up n q k b a c l s x le r t =
-      let M = doing (shape w) q (s .layout) .layout in
-      let d = does wd b (s .layout) l (s .here) q (granted (a .0) c) x in
-      let v = shows n q k b (granted (a .0) c) (s .layout) M (record { lent = l; here = s .here; comes = x; granted = refl; then = d .here }) le in
+  pub looked-up : (n : ℕ) (q : Call) → AsksFor n q → (b : List ℕ) (a : Address) (c : List ℕ) (L : Layout) → Lent (shape w) b → Here (shape w) b L → Comes (shape w) b q (granted (a .0) c) → ForItem (shape w) q n L → (r : List ℕ) → PartTold w c (a .0) r → length r ≡ n
+  looked-up n q k b a c L l h x f r t =
+      let M = doing (shape w) q L .layout in
+      let d = does wd b L l h q (granted (a .0) c) x in
+      let v = shows n q k b (granted (a .0) c) L M (record { lent = l; here = h; comes = x; granted = refl; then = d .here }) f in
       ap length (t .sound (omega (arith, d .same, l .0), omega (arith, d .same, l .1)) M (d .here))
       ∙ subst (λ (y : ℕ). length (lookedUp (shape w) c y M) ≡ v .0 .shown) (v .2) (shown-length c M (d .here) (v .0) (v .1))
       ∙ v .3

@@ -8,8 +8,7 @@ use native.Mathlib.Omega.{arith}
 use lib.ListN.{length, getD, replicate}
 use borrow.Author.Tests.{le-leb}
 use Rattle.words.specs.Width.{Width}
-use Rattle.words.proofs.WidthLaws.{widths}
-use Rattle.model.specs.Shape.{shape, start, largestItem, classOf, pageNeed, endOf}
+use Rattle.model.specs.Shape.{shape, start, largestItem, classOf, needOf, pageNeed, endOf}
 use Rattle.model.specs.Layout.{free}
 use Rattle.model.specs.Sound.{Here}
 use Rattle.model.specs.Rules.{Made, allocate, fresh}
@@ -18,6 +17,7 @@ use Rattle.model.specs.Refusals.{noRoom}
 use Rattle.model.specs.Calls.{Outcome, Lent, allocated}
 use Rattle.model.specs.Promises.{NoRoom}
 use Rattle.model.proofs.Sizes.{eight, four, per-page-bound}
+use Rattle.model.proofs.Good.{shape-good}
 use Rattle.model.proofs.rules.Room.{no-room}
 use Rattle.promises.specs.Figures.{Needs}
 use Rattle.promises.proofs.Opened.{opened-fresh}
@@ -34,14 +34,21 @@ module _ {w : ℕ} (wd : Width w) where
   unfolding _∈_
   one-block end t h = ⊎-elim (λ e. cc) (λ z. absurd z) h
 
-  -- a size n of an item: the first page of its class must fit
-  module _ (n need : ℕ) (one : 1 ≤ n) (item : n ≤ largestItem (shape w)) (is : pageNeed (shape w) (classOf n) ≡ need) where
-    fresh-none : (end : ℕ) → NoRoom (shape w) n (fresh (shape w) end) ↔ (end - start (shape w) < need)
-    fresh-none end = (
-      (λ r. omega (arith, is, r .0 item .1 (end - start (shape w)) (unfold _∈_ in inl refl))),
-      (λ l. ((λ i. (empty-at (shape w .classes) (classOf n), λ t h. omega (arith, is, one-block end t h))), (λ big. absurd (omega (arith, item, big))))),
+  -- the room that n needs on a fresh heap: a page of its class, where that is handed out; else a block
+  module _ (n : ℕ) where
+    page-room : n ≤ largestItem (shape w) → (end : ℕ) → NoRoom (shape w) n (fresh (shape w) end) ↔ (end - start (shape w) < pageNeed (shape w) (classOf n))
+    page-room item end = (
+      (λ r. r .0 item .1 (end - start (shape w)) (unfold _∈_ in inl refl)),
+      (λ l. ((λ i. (empty-at (shape w .classes) (classOf n), λ t h. omega (arith, l, one-block end t h))), (λ big. absurd (omega (arith, item, big))))),
     )
 
+    block-room : largestItem (shape w) < n → (end : ℕ) → NoRoom (shape w) n (fresh (shape w) end) ↔ (end - start (shape w) < needOf (shape w) n)
+    block-room big end = (
+      (λ r. r .1 big (end - start (shape w)) (unfold _∈_ in inl refl)),
+      (λ l. ((λ item. absurd (omega (arith, item, big))), (λ i t h. omega (arith, l, one-block end t h)))),
+    )
+
+  module _ (n need : ℕ) (one : 1 ≤ n) (within : n ≤ shape w .most) (fresh-none : (end : ℕ) → NoRoom (shape w) n (fresh (shape w) end) ↔ (end - start (shape w) < need)) where
     pub needs : (N : ℕ) → N ≡ start (shape w) + need → 0 < need → N % 8 ≡ 0 → Needs w n N
     needs N e some-need even b r o c g a = go (allocate (shape w) n (fresh (shape w) (endOf (length b)))) refl
       where
@@ -55,10 +62,7 @@ module _ {w : ℕ} (wd : Width w) where
         lent = let f = opened-fresh wd b r c g .lent in (omega (arith, long, f .0), omega (arith, long, f .1))
 
         room : (allocate (shape w) n (fresh (shape w) (endOf (length b))) ≡ none) ↔ NoRoom (shape w) n (fresh (shape w) (endOf (length b)))
-        room = no-room (shape w) (endOf (length (r .heap))) n (fresh (shape w) (endOf (length b))) (here .valid) one (λ c. per-page-bound wd c .0)
-
-        within : n ≤ shape w .most
-        within = widths (λ w. n ≤ largestItem (shape w) → n ≤ shape w .most) (omega arith) (omega arith) w wd item
+        room = no-room (shape w) (shape-good wd .offered) (endOf (length (r .heap))) n (fresh (shape w) (endOf (length b))) (here .valid) one (λ c. per-page-bound wd c .0)
 
         so : o ≡ allocated (shape w) (r .heap) n (fresh (shape w) (endOf (length b)))
         so = rw (le-leb 1 n one, le-leb n (shape w .most) within) at (a .sound lent (fresh (shape w) (endOf (length b))) here)
@@ -73,15 +77,15 @@ module _ {w : ℕ} (wd : Width w) where
           (λ l. ap (λ (x : Outcome). x .refusal) (rw k at so)),
         )
 
--- allocate 256 needs N of 4,552, and allocate 1 needs 4,440; of the hand unit allocate 1 needs 128, and 128 needs 368
-pub needs-256 : Needs 8 256 4552
-needs-256 = needs eight 256 4240 (omega arith) (omega arith) refl 4552 refl (omega arith) refl
+-- allocate 256 needs N of 584, and allocate 1 needs 4,440; of the hand unit allocate 1 needs 128, and 128 needs 368
+pub needs-256 : Needs 8 256 584
+needs-256 = needs eight 256 272 (omega arith) (omega arith) (block-room eight 256 (omega arith)) 584 refl (omega arith) refl
 
 pub needs-1 : Needs 8 1 4440
-needs-1 = needs eight 1 4128 (omega arith) (omega arith) refl 4440 refl (omega arith) refl
+needs-1 = needs eight 1 4128 (omega arith) (omega arith) (page-room eight 1 (omega arith)) 4440 refl (omega arith) refl
 
 pub hand-needs-1 : Needs 4 1 128
-hand-needs-1 = needs four 1 32 (omega arith) (omega arith) refl 128 refl (omega arith) refl
+hand-needs-1 = needs four 1 32 (omega arith) (omega arith) (page-room four 1 (omega arith)) 128 refl (omega arith) refl
 
 pub hand-needs-128 : Needs 4 128 368
-hand-needs-128 = needs four 128 272 (omega arith) (omega arith) refl 368 refl (omega arith) refl
+hand-needs-128 = needs four 128 272 (omega arith) (omega arith) (page-room four 128 (omega arith)) 368 refl (omega arith) refl

@@ -29,7 +29,7 @@ module _ {w : ℕ} (wd : Width w) where
   module _ (b : List ℕ) (n : ℕ) (L : Layout) (h : Here (shape w) b L) (one : 1 ≤ n) where
     -- there is no room exactly when the rule finds none
     room : (allocate (shape w) n L ≡ none) ↔ NoRoom (shape w) n L
-    room = no-room (shape w) (endOf (length b)) n L (h .valid) one (λ c. per-page-bound wd c .0)
+    room = no-room (shape w) (shape-good wd .offered) (endOf (length b)) n L (h .valid) one (λ c. per-page-bound wd c .0)
 
     module _ (x : Payload) (i : x ∈ live (shape w) L) where
       there : isThere (find (shape w) (x .address) L) ≡ 1

@@ -5,6 +5,8 @@ use Rattle.model.specs.Shape.{shape, wide, hand}
 use Rattle.model.specs.Promises.{Promised}
 use Rattle.model.proofs.Sizes.{eight, four}
 use Rattle.model.proofs.lives.Payloads.{in-area, no-overlap, no-word-inside}
+use Rattle.model.proofs.Good.{shape-good}
+use Rattle.model.proofs.rules.Before.{sound-before, layout-before}
 use Rattle.model.proofs.rules.ResizeWays.{split-gives}
 use Rattle.sound.proofs.OneLayout.{one-layout}
 use Rattle.promises.proofs.Determined.{determined, reading-determined}
@@ -18,6 +20,7 @@ use Rattle.promises.proofs.AllocateKept.{allocate-keeps}
 use Rattle.promises.proofs.FreeKept.{free-keeps}
 use Rattle.promises.proofs.ResizeKept.{resize-keeps, each-way-keeps}
 use Rattle.promises.proofs.AskedShown.{asked-shown}
+use Rattle.promises.proofs.ClosedWait.{closed-wait}
 use Rattle.promises.proofs.Places.{in-place-stays, move-moves}
 use Rattle.promises.proofs.SweepKept.{sweep-keeps, swept-stays, sweep-counts}
 use Rattle.promises.proofs.NoRoomExact.{no-room-exactly, smaller-kept}
@@ -33,6 +36,8 @@ promised {w} wd =
       reading-answers-only = reading-answers-only (shape w);
       accepts-exactly = accepts-exactly wd;
       one-layout = one-layout wd;
+      sound-before = sound-before (shape w) (shape-good wd);
+      layout-before = layout-before (shape w) (shape-good wd);
       stays-sound = stays-sound wd;
       opens-sound = opens-sound wd;
       no-overlap = no-overlap (shape w);
@@ -46,6 +51,7 @@ promised {w} wd =
       resize-keeps = resize-keeps wd;
       each-way-keeps = each-way-keeps wd;
       asked-shown = asked-shown wd;
+      closed-wait = closed-wait wd;
       in-place-stays = in-place-stays (shape w);
       move-moves = move-moves wd;
       split-gives = split-gives (shape w);

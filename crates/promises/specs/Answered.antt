@@ -6,14 +6,14 @@ use mathlib.Core.List.{List}
 use mathlib.Core.Option.{none}
 use denote.Ref.{RefT, now, ptr}
 use lib.ListN.{length}
-use Rattle.model.specs.Shape.{shape, largestItem}
+use Rattle.model.specs.Shape.{shape, addressOf, itemAt}
 use Rattle.model.specs.Layout.{Layout}
 use Rattle.model.specs.Sound.{Here, Sound}
 use Rattle.model.specs.Rules.{find, stays}
 use Rattle.model.specs.Live.{_∈_, Payload, live}
 use Rattle.model.specs.Walking.{column}
 use Rattle.model.specs.Calls.{Way, staying, moving, keeping, Lent, granted, Sweeps, Steps, Counts}
-use Rattle.model.specs.Promises.{Call, initialising, checking, allocating, freeing, resizing, resizingBy, sweeping, numbersOf, Comes, AllocateKept, FreeKept, ResizeKept, SweepKept, SweepCounted, NoRoom, NotOpen, NoRoomFor}
+use Rattle.model.specs.Promises.{Call, initialising, checking, allocating, freeing, resizing, resizingBy, sweeping, numbersOf, Comes, Waits, ForItem, AllocateKept, FreeKept, ResizeKept, SweepKept, SweepCounted, NoRoom, NotOpen, NoRoomFor}
 use Rattle.model.specs.declared.Address.{Address}
 use Rattle.serving.specs.declared.Answer.{Answer}
 use Rattle.serving.specs.declared.Answer.the-variants.{Granted, Refused}
@@ -83,8 +83,11 @@ module _ (w : ℕ) where
     pub each-way-keeps : (v : Way) (b : List ℕ) (a n : ℕ) (x : Address) (c : List ℕ) (L L′ : Layout) → Lent (shape w) b → Here (shape w) b L → MayAnswer b (resizingBy v a n) (Granted x) c → Here (shape w) c L′
         → ResizeKept (shape w) b a n L (granted (x .0) c) L′
     -- an item that was granted for n bytes is looked up as n bytes
-    pub looked-up : (n : ℕ) (q : Call) → AsksFor n q → (b : List ℕ) (a : Address) (c : List ℕ) → Lent (shape w) b → Sound (shape w) b → MayAnswer b q (Granted a) c → n ≤ largestItem (shape w)
+    pub looked-up : (n : ℕ) (q : Call) → AsksFor n q → (b : List ℕ) (a : Address) (c : List ℕ) (L : Layout) → Lent (shape w) b → Here (shape w) b L → MayAnswer b q (Granted a) c → ForItem (shape w) q n L
         → (r : List ℕ) → PartTold w c (a .0) r → length r ≡ n
+    -- a free item of a closed class is never handed out: every granted call but a sweep leaves it on its list, and none answers its address
+    pub closed-wait : (b : List ℕ) (q : Call) (a : Address) (c : List ℕ) (L L′ : Layout) → Lent (shape w) b → Here (shape w) b L → MayAnswer b q (Granted a) c → Here (shape w) c L′ → (q ≡ sweeping → ⊥)
+        → (k o : ℕ) → shape w .offered ≤ k → Waits k o L → Waits k o L′ × (a .0 ≡ addressOf (shape w) (itemAt (shape w) o) → ⊥)
     -- in place gives the record's own address, a move never does
     pub in-place-stays : (b : List ℕ) (a n : ℕ) (x : Address) (c : List ℕ) → MayAnswer b (resizingBy staying a n) (Granted x) c → x .0 ≡ a
     pub move-moves : (b : List ℕ) (a n : ℕ) (x : Address) (c : List ℕ) → MayAnswer b (resizingBy moving a n) (Granted x) c → x .0 ≡ a → ⊥

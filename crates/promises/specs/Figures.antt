@@ -57,9 +57,9 @@ table =
     -- after 16 above, free 648: header 9,861, head 592; free 648 again: 5
     ∷ figure 10000 (allocating 300 ∷ allocating 16 ∷ freeing 648 ∷ []) (says 0 0 ∷ says 0 320 ∷ says 0 648 ∷ says 0 0 ∷ []) (word 640 9861 ∷ word 56 592 ∷ [])
     ∷ figure 10000 (allocating 300 ∷ allocating 16 ∷ freeing 648 ∷ freeing 648 ∷ []) (says 0 0 ∷ says 0 320 ∷ says 0 648 ∷ says 0 0 ∷ says 5 0 ∷ []) (word 640 9861 ∷ word 56 592 ∷ [])
-    -- allocate 256 needs N of 4,552; at 4,551: 6. Allocate 1 needs 4,440
-    ∷ figure 4552 (allocating 256 ∷ []) (says 0 0 ∷ says 0 328 ∷ []) []
-    ∷ figure 4551 (allocating 256 ∷ []) (says 0 0 ∷ says 6 0 ∷ []) []
+    -- allocate 256 needs N of 584 (01: 4,552, before (xi)), a block of 272; at 583: 6. Allocate 1 needs 4,440
+    ∷ figure 584 (allocating 256 ∷ []) (says 0 0 ∷ says 0 320 ∷ []) (word 312 274 ∷ word 576 274 ∷ word 24 0 ∷ [])
+    ∷ unchanged 583 (allocating 256 ∷ []) (says 0 0 ∷ says 6 0 ∷ []) (word 312 264 ∷ [])
     ∷ figure 4440 (allocating 1 ∷ []) (says 0 0 ∷ says 0 328 ∷ []) []
     ∷ figure 4439 (allocating 1 ∷ []) (says 0 0 ∷ says 6 0 ∷ []) []
     -- H, allocate 600, resize 320 to 570: nothing changes; to 568: free block at 896, size 9,104
@@ -90,6 +90,12 @@ table =
     ∷ figure 10000 (allocating 16 ∷ allocating 16 ∷ allocating 16 ∷ freeing 328 ∷ freeing 352 ∷ []) (says 0 0 ∷ says 0 328 ∷ says 0 352 ∷ says 0 376 ∷ says 0 0 ∷ says 0 0 ∷ []) (word 56 296 ∷ [])
     ∷ figure 10000 (allocating 16 ∷ allocating 16 ∷ allocating 16 ∷ freeing 328 ∷ freeing 352 ∷ sweeping ∷ []) (says 0 0 ∷ says 0 328 ∷ says 0 352 ∷ says 0 376 ∷ says 0 0 ∷ says 0 0 ∷ says 0 0 ∷ [])
     (word 56 272 ∷ word 320 4741 ∷ word 344 5509 ∷ [])
+    -- (xi) H, allocate 129: a block of 152; then 128: a page of class 15 at 464, tag 4,235; address 480, header 16,447
+    ∷ figure 10000 (allocating 129 ∷ allocating 128 ∷ []) (says 0 0 ∷ says 0 320 ∷ says 0 480 ∷ []) (word 312 154 ∷ word 464 4235 ∷ word 472 16447 ∷ [])
+    -- H, allocate 256, in place to 129: tag 154, free block at 464, size 9,536; then to 200: tag 218, free block at 528; to 128 instead: 6
+    ∷ figure 10000 (allocating 256 ∷ resizingBy staying 320 129 ∷ []) (says 0 0 ∷ says 0 320 ∷ says 0 320 ∷ []) (word 312 154 ∷ word 24 464 ∷ word 464 9536 ∷ [])
+    ∷ figure 10000 (allocating 256 ∷ resizingBy staying 320 129 ∷ resizing 320 200 ∷ []) (says 0 0 ∷ says 0 320 ∷ says 0 320 ∷ says 0 320 ∷ []) (word 312 218 ∷ word 24 528 ∷ word 528 9472 ∷ [])
+    ∷ unchanged 10000 (allocating 256 ∷ resizingBy staying 320 128 ∷ []) (says 0 0 ∷ says 0 320 ∷ says 6 0 ∷ []) (word 312 274 ∷ [])
     ∷ []
 
 -- of the hand unit's heap (viii)

@@ -20,6 +20,7 @@ use Rattle.model.specs.inner.Items.{InSlots, InUse, InBlocks}
 use Rattle.model.specs.inner.Walks.{lastFree}
 use Rattle.model.proofs.Sizes.{start-eight}
 use Rattle.model.proofs.blocks.Valid.{items-append}
+use Rattle.model.proofs.items.ItemPlaces.{in-rear}
 use Rattle.model.proofs.items.Items.{blocks-range}
 use Rattle.model.proofs.items.Offsets.{items-off}
 use Rattle.model.proofs.items.Pop.{items-found}
@@ -88,13 +89,6 @@ module _ (S : Shape) (c : ℕ) where
       go idle r = omega (arith, r)
       go (held m) r = r
 
--- an item is there with blocks in front
-in-append : (S : Shape) (c q p : ℕ) (xs ys : List Block) → InBlocks S c q (ends S p xs) ys → InBlocks S c q p (xs ++ ys)
-unfolding InBlocks ends sizeOf
-in-append S c q p [] ys i = i
-in-append S c q p (free t ∷ xs) ys i = in-append S c q (p + t) xs ys i
-in-append S c q p (used u ∷ xs) ys i = inr (in-append S c q (p + useSize S u) xs ys i)
-
 -- a page that stands at p of a heap
 module _ {w : ℕ} (wd : Width w) {b : List ℕ} {L : Layout} (h : Laid w b L) {p c : ℕ} {ss : List Slot} (t : PageThere w L p c ss) where
   page-met : Met w b L p (lastFree (shape w) (start (shape w)) (t .pre) 0) (used (page c (t .spare) ss)) (t .post)
@@ -124,7 +118,7 @@ module _ {w : ℕ} (wd : Width w) {b : List ℕ} {L : Layout} (h : Laid w b L) {
     unfolding InBlocks InUse
     item-in =
         rw (t .passed .blocks)
-        (in-append (shape w) c (firstItemAt (shape w) p + i * itemSize (shape w) c) (start (shape w)) (t .pre) (used (page c (t .spare) ss) ∷ t .post)
+        (in-rear (shape w) c (firstItemAt (shape w) p + i * itemSize (shape w) c) (start (shape w)) (t .pre) (used (page c (t .spare) ss) ∷ t .post)
         (rw (t .passed .begins) (inl (refl, item-there (shape w) c (firstItemAt (shape w) p) i ss n))))
 
     module _ (e : getD ss i idle ≡ idle) where

@@ -13,7 +13,7 @@ use Rattle.words.proofs.YesNo.{yes-no}
 use Rattle.words.specs.Copy.{copied}
 use Rattle.model.specs.declared.Address.{Address}
 use Rattle.model.specs.declared.Position.{Position}
-use Rattle.model.specs.Shape.{shape, endOf, classOf, itemShown, offsetOf, start, leastVariable, largestItem}
+use Rattle.model.specs.Shape.{shape, endOf, classOf, itemShown, itemAt, offsetOf, start, leastVariable, largestItem}
 use Rattle.model.specs.Layout.{Layout}
 use Rattle.model.specs.Sound.{Here}
 use Rattle.model.specs.Rules.{Spot, Made, Found, block, thing, nothing, find, allocate, capacity, shownOf, renewed, stays, freed}
@@ -23,6 +23,7 @@ use Rattle.model.proofs.Good.{shape-good}
 use Rattle.model.proofs.rules.ResizeWays.{by-nowhere, by-there}
 use Rattle.model.proofs.walks.Finding.{item-found}
 use Rattle.model.proofs.lives.LiveFound.{there-is}
+use Rattle.model.proofs.items.ItemPlaces.{allocate-still}
 use Rattle.model.proofs.lives.Moving.{taken-large, item-again}
 use Rattle.model.proofs.blocks.Resizing.{item-stays, item-moves, small-moves}
 use Rattle.find.specs.declared.UsedBlock.{UsedBlock}
@@ -119,7 +120,7 @@ module _ {w : ℕ} {b : List ℕ} {a q c k : ℕ} (i : ItemLiveAt w b a q c k) w
       record {
         is = λ L h.
             let s : stays (shape w) n (find (shape w) a L) L ≡ some (renewed (shape w) n (offsetOf (shape w) q) L) =
-            ap (λ (y : Found). stays (shape w) n y L) (i .is L h) ∙ item-stays (shape w) n (offsetOf (shape w) q) c k L few e in
+            ap (λ (y : Found). stays (shape w) n y L) (i .is L h) ∙ item-stays (shape w) n (offsetOf (shape w) q) c k L e in
             remains w b a n L (is-live L h) d (renewed (shape w) n (offsetOf (shape w) q) L) s (r .draws L a k h (i .is L h));
       }
 
@@ -136,7 +137,8 @@ module _ {w : ℕ} {b : List ℕ} {a q c k : ℕ} (i : ItemLiveAt w b a q c k) w
         let m = chosen g item-holds s x e L h in
         let f = item-found (shape w) (shape-good (i .ready .width)) a (offsetOf (shape w) q) c k (start (shape w)) (L .blocks) (omega arith) (h .valid .allowed) (i .is L h) in
         let hc = carried-in g item-holds s x e L h in
-        item-again (shape w) (shape-good (i .ready .width)) (endOf (length d)) (m .0 .layout) (hc .valid) a (offsetOf (shape w) q) c k few (f .at)
+        item-again (shape w) (shape-good (i .ready .width)) (endOf (length d)) (m .0 .layout) (hc .valid) a (offsetOf (shape w) q) c k
+        (allocate-still (shape w) c (itemAt (shape w) (offsetOf (shape w) q)) (shape-good (i .ready .width)) (h .valid) n (f .there) (m .0) (m .1)) (f .at)
         (rw (i .is L h) at (old-live b a (itemShown (shape w) c k) n item-holds s L h (m .0) (m .1)))
 
     pub item-still : length d ≡ length b → ItemIn w d q c

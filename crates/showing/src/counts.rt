@@ -3,6 +3,7 @@ use crate::text::write;
 use crate::text::write_number;
 use model::classes;
 use model::item_capacity;
+use model::offered;
 use reading::counting::count;
 use reading::counting::tabulate;
 ghost use Prim.Native.Nat.{_<_};
@@ -24,7 +25,7 @@ pub fn write_statistics(w: usize, h: &[u8])
     write(b"\n");
 }
 
-// The row of class c, where it has a page.
+// The row of class c, where it has a page; and whether the class is closed.
 fn write_class(w: usize, c: usize, row: [u64; 3])
     requires { ⌜ Width w × (c < shape w .classes) ⌝ }
 {
@@ -36,6 +37,9 @@ fn write_class(w: usize, c: usize, row: [u64; 3])
     write_number(b" ", row[0]);
     write_number(b" ", row[1]);
     write_number(b" ", row[2]);
+    if offered(w) <= c {
+        write(b" closed");
+    }
     write(b"\n");
 }
 
@@ -43,7 +47,9 @@ fn write_class(w: usize, c: usize, row: [u64; 3])
 pub fn write_classes(w: usize, h: &[u8])
     requires { ⌜ Width w × Sound (shape w) (now h) ⌝ }
 {
-    write(b"\nclasses: class, item size, pages, live items, free items\n");
+    write(
+        b"\nclasses: class, item size, pages, live items, free items; closed: no more are handed out\n",
+    );
     let rows = tabulate(w, h);
     let count = classes(w);
     let mut c = 0;

@@ -1,7 +1,7 @@
 -- Resize in place: a block stays as it is, loses its tail, or grows over a free right neighbour.
 use Prim.Native.Nat.{ℕ, _+_, _-_, _%_, _≤_, _<_}
 use mathlib.Core.Path.{_≡_, refl, sym, ap, subst, _∙_}
-use mathlib.Core.Bool.{Bool, true, false, _&&_, cond}
+use mathlib.Core.Bool.{cond}
 use mathlib.Core.List.{List, [], _∷_, _++_}
 use mathlib.Core.Option.{Option, none, some}
 use native.Mathlib.Omega.{arith}
@@ -23,17 +23,13 @@ use Rattle.model.proofs.Sizes.{up-above, need-eight}
 
 module _ (S : Shape) where
   -- an item stays exactly where its class is the size's
-  pub item-stays : (n o c k : ℕ) (L : Layout) → c < S .classes → classOf n ≡ c → stays S n (thing o c k) L ≡ some (renewed S n o L)
+  pub item-stays : (n o c k : ℕ) (L : Layout) → classOf n ≡ c → stays S n (thing o c k) L ≡ some (renewed S n o L)
   unfolding stays
-  item-stays n o c k L l e = rw (le-leb n (largestItem S) (omega arith), eq-eqb (classOf n) c e) refl
+  item-stays n o c k L e = rw (eq-eqb (classOf n) c e) refl
 
   pub item-moves : (n o c k : ℕ) (L : Layout) → (classOf n ≡ c → ⊥) → stays S n (thing o c k) L ≡ none
   unfolding stays
-  item-moves n o c k L e = rw (ne-eqb (classOf n) c e) (go (leb n (largestItem S)))
-    where
-      go : (y : Bool) → _≡_ {A = Option Layout} (cond (y && false) (some (renewed S n o L)) none) none
-      go true = refl
-      go false = refl
+  item-moves n o c k L e = rw (ne-eqb (classOf n) c e) refl
 
   -- a block never stays for the size of an item
   pub small-moves : (n : ℕ) (t : Spot) (L : Layout) → n ≤ largestItem S → stays S n (block t) L ≡ none
@@ -135,7 +131,7 @@ module _ (S : Shape) where
           eight = takes-eight S (needOf S n) (t .size + r) (need-eight n (tags S) (good .tags)) (both-eight (t .size) r side (allowed-left S both post (allowed-right S (t .pre) (both ++ post) (was .allowed))))
 
           large : leastVariable S ≤ taken
-          large = omega (arith, k .enough, up-above (S .classes) n big)
+          large = omega (arith, k .enough, up-above (S .offered) n big)
 
           go : Dec (taken < t .size + r) → Valid S end resizedIn
           go (yes l) =

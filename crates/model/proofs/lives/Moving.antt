@@ -21,7 +21,9 @@ use Rattle.model.proofs.pictures.Pictures.{Outside, clear-outside, show
 use Rattle.model.proofs.pictures.Drawn.{tiled}
 use Rattle.model.proofs.lives.Payloads.{live-within, slots-within, in-area, no-overlap, words-clear}
 use Rattle.model.proofs.walks.Finding.{slots-above, block-found, item-found}
+use Rattle.model.specs.inner.Items.{InBlocks}
 use Rattle.model.proofs.blocks.Blocks.{allowed-right}
+use Rattle.model.proofs.items.ItemPlaces.{no-block}
 
 -- of two that differ in a list one stands before the other
 in-turn : {A : Type 0} (x y : A) (zs : List A) → x ∈ zs → y ∈ zs → (x ≡ y → ⊥) → InTurn x y zs ⊎ InTurn y x zs
@@ -145,7 +147,7 @@ module _ (S : Shape) where
       at i target out (no p) d = copied-out b from (y .address) k source target i (λ x z. p x)
       at i target out (yes p) (no q) = copied-out b from (y .address) k source target i (λ x z. q z)
 
-  -- an item in use, and a variable block, that are still live are found again
+  -- a variable block is large enough; an item in use that is still live is found again
   module _ (good : Good S) (end : ℕ) (L : Layout) (v : Valid S end L) where
     pub taken-large : (a : ℕ) (t : Spot) → findFrom S a (start S) (L .blocks) ≡ block t → leastVariable S ≤ t .size
     unfolding AllAllowed Allowed AllowedUse
@@ -155,24 +157,16 @@ module _ (S : Shape) where
         allowed-right S (t .pre) ((used (variable (t .size)) ∷ []) ++ t .post) all .0 .0
 
     -- the item is found with a size of which as much is shown
-    pub item-again : (a o c n : ℕ) → c < S .classes → a ≡ addressOf S (itemAt S o) → record { address = a; size = itemCapacity S c; shown = itemShown S c n } ∈ live S L → (m : ℕ) × (findFrom S a (start S) (L .blocks) ≡ thing o c m)
-    item-again a o c n few at h = go (findFrom S a (start S) (L .blocks)) refl (live-found (record { address = a; size = itemCapacity S c; shown = itemShown S c n }) (start S) (L .blocks) good (v .allowed) h)
+    pub item-again : (a o c n : ℕ) → InBlocks S c (itemAt S o) (start S) (L .blocks) → a ≡ addressOf S (itemAt S o) → record { address = a; size = itemCapacity S c; shown = itemShown S c n } ∈ live S L → (m : ℕ) × (findFrom S a (start S) (L .blocks) ≡ thing o c m)
+    item-again a o c n there at h = go (findFrom S a (start S) (L .blocks)) refl (live-found (record { address = a; size = itemCapacity S c; shown = itemShown S c n }) (start S) (L .blocks) good (v .allowed) h)
       where
         go : (f : Found) → findFrom S a (start S) (L .blocks) ≡ f → Shown (record { address = a; size = itemCapacity S c; shown = itemShown S c n }) f → (m : ℕ) × (f ≡ thing o c m)
-        go (block t) e s = absurd (omega (arith, taken-large a t e, s .large))
+        go (block t) e s =
+            let f = block-found S good a (start S) (L .blocks) t e in
+            absurd (no-block S c (itemAt S o) (start S) (t .size) (t .pre) (t .post) (omega (arith, taken-large a t e)) (omega (arith, f .at, at)) (subst (λ (l : List Block). InBlocks S c (itemAt S o) (start S) l) (f .blocks) there))
         go (thing o′ c′ m) e s =
             let i = item-found S good a o′ c′ m (start S) (L .blocks) (omega arith) (v .allowed) e in
             let eo : o′ ≡ o = omega (arith, i .at) in
             let ec : c′ ≡ c = omega (arith, s .large) in
             (m, rw (eo, ec) refl)
         go nothing e s = absurd (s .there refl)
-
-    pub block-again : (a s : ℕ) → leastVariable S ≤ s → record { address = a; size = s - tags S; shown = s - tags S } ∈ live S L → (t : Spot) × (findFrom S a (start S) (L .blocks) ≡ block t) × (t .size ≡ s)
-    block-again a s large h = go (findFrom S a (start S) (L .blocks)) refl (live-found (record { address = a; size = s - tags S; shown = s - tags S }) (start S) (L .blocks) good (v .allowed) h)
-      where
-        go : (f : Found) → findFrom S a (start S) (L .blocks) ≡ f → Shown (record { address = a; size = s - tags S; shown = s - tags S }) f → (t : Spot) × (findFrom S a (start S) (L .blocks) ≡ block t) × (t .size ≡ s)
-        go (block t) e k = (t, e, omega (arith, taken-large a t e, k .large))
-        go (thing o c n) e k =
-            let i = item-found S good a o c n (start S) (L .blocks) (omega arith) (v .allowed) e in
-            absurd (omega (arith, i .class, k .large))
-        go nothing e k = absurd (k .there refl)

@@ -1,7 +1,7 @@
 -- What a resize in place leaves: a valid layout, in which the same is live, with the record at its address.
 use Prim.Native.Nat.{ℕ, _+_, _-_, _%_, _≤_, _<_}
 use mathlib.Core.Path.{_≡_, refl, sym, ap, ap₂, subst, _∙_}
-use mathlib.Core.Bool.{cond, _&&_}
+use mathlib.Core.Bool.{cond}
 use mathlib.Core.List.{List, [], _∷_, _++_}
 use mathlib.Core.Logic.{_⊎_, inl, inr, ⊎-elim}
 use mathlib.Core.Option.{Option, none, some}
@@ -14,6 +14,7 @@ use Rattle.model.specs.Layout.{variable, Block, free, used, Layout, useS
 use Rattle.model.specs.Sound.{Allowed, AllowedUse, AllAllowed, Apart, idleIn, idleItems, Valid}
 use Rattle.model.specs.Rules.{Spot, before, Found, block, thing, nothing, cut, asVariable, find, shrunk, grown, reshaped, pushed, renewed, stays}
 use Rattle.model.specs.Live.{_∈_, Payload, useLive, liveFrom, live}
+use Rattle.model.specs.Promises.{IsItem}
 use Rattle.model.proofs.lives.Members.{in-left, in-right, in-either}
 use Rattle.model.proofs.blocks.Blocks.{allowed-right}
 use Rattle.model.proofs.blocks.Replace.{three}
@@ -98,13 +99,13 @@ module _ (S : Shape) where
       pub there : payload ∈ live S M
       pub at : payload .address ≡ a
       pub large : n ≤ payload .size
-      pub shown : n ≤ largestItem S → payload .shown ≡ n
+      pub shown : (n ≤ largestItem S) ⊎ IsItem (find S a L) → payload .shown ≡ n
 
     unfoldable StayedAs : ℕ → Option Layout → Type 0
     StayedAs end none = Unit {0}
     StayedAs end (some M) = Stayed end M
 
-    module _ {end : ℕ} (v : Valid S end L) (t : Spot) (e : L .blocks ≡ t .pre ++ ((used (variable (t .size)) ∷ []) ++ t .post)) (at : a ≡ addressOf S (ends S (start S) (t .pre))) where
+    module _ {end : ℕ} (v : Valid S end L) (t : Spot) (is-block : find S a L ≡ block t) (e : L .blocks ≡ t .pre ++ ((used (variable (t .size)) ∷ []) ++ t .post)) (at : a ≡ addressOf S (ends S (start S) (t .pre))) where
       reshaped-stayed : (bs : List Block) (need : ℕ) → largestItem S < n → leastVariable S ≤ need → n + tags S ≤ need → Reshapes t bs need → Stayed end (record { blocks = t .pre ++ bs; lists = L .lists })
       unfolding _∈_
       reshaped-stayed bs need above big holds-it s =
@@ -142,7 +143,7 @@ module _ (S : Shape) where
             there = subst (λ (q : List Payload). y ∈ q) (sym m) (in-right y A (y ∷ C) (inl refl));
             at = sym at;
             large = omega (arith, s .large, holds-it);
-            shown = λ l. absurd (omega arith);
+            shown = ⊎-elim (λ l. absurd (omega arith)) (λ i. absurd (subst IsItem is-block i));
           }
 
   -- what a block's right side is allowed to be
@@ -274,14 +275,14 @@ module _ (S : Shape) where
         go nobody c e = alone (s .post) (s .clear-right)
         go (neighbour r) c e = beside r e (c .1) (decLe need (t .size + r))
 
-  module _ (n a : ℕ) {end : ℕ} {L : Layout} (v : Valid S end L) (t : Spot) (e : L .blocks ≡ t .pre ++ ((used (variable (t .size)) ∷ []) ++ t .post)) (at : a ≡ addressOf S (ends S (start S) (t .pre))) where
+  module _ (n a : ℕ) {end : ℕ} {L : Layout} (v : Valid S end L) (t : Spot) (is-block : find S a L ≡ block t) (e : L .blocks ≡ t .pre ++ ((used (variable (t .size)) ∷ []) ++ t .post)) (at : a ≡ addressOf S (ends S (start S) (t .pre))) where
     big-stays : largestItem S < n → tags S % 8 ≡ 0 → t .size % 8 ≡ 0 → (s : Sides t) → SideAllowed (s .right)
         → StayedAs n a L end (reshaped S (needOf S n) t L (cond (leb (needOf S n) (t .size)) (some (shrunk S (needOf S n) (t .size) (t .post))) (grown S (needOf S n) (t .size) (t .post))))
     unfolding reshaped StayedAs ReshapesAs
     big-stays big te mine s all = go (decLe (needOf S n) (t .size))
       where
         there : (bs : List Block) → Reshapes t bs (needOf S n) → Stayed n a L end (record { blocks = t .pre ++ bs; lists = L .lists })
-        there bs r = reshaped-stayed n a L v t e at bs (needOf S n) big (omega (arith, up-above (S .classes) n big)) (omega arith) r
+        there bs r = reshaped-stayed n a L v t is-block e at bs (needOf S n) big (omega (arith, up-above (S .offered) n big)) (omega arith) r
 
         grows : (o : Option (List Block)) → ReshapesAs t (needOf S n) o → StayedAs n a L end (reshaped S (needOf S n) t L o)
         grows none r = tt
@@ -313,7 +314,7 @@ module _ (S : Shape) where
   module _ (good : Good S) (n a : ℕ) (one : 1 ≤ n) {end : ℕ} {L : Layout} (v : Valid S end L) where
     item-stays : (o c k : ℕ) → find S a L ≡ thing o c k → StayedAs n a L end (stays S n (thing o c k) L)
     unfolding stays StayedAs
-    item-stays o c k e = go (decLe n (largestItem S)) (ℕ-discrete (classOf n) c)
+    item-stays o c k e = go (ℕ-discrete (classOf n) c)
       where
         -- beside the item the same is live as where it is given back, and the item for n bytes
         same : classOf n ≡ c → Stayed n a L end (renewed S n o L)
@@ -332,17 +333,16 @@ module _ (S : Shape) where
               shown = λ l. shown-asked S c n one;
             }
 
-        go : Dec (n ≤ largestItem S) → Dec (classOf n ≡ c) → StayedAs n a L end (cond (leb n (largestItem S) && eqb (classOf n) c) (some (renewed S n o L)) none)
-        go (no h) k = rw (lt-leb n (largestItem S) (omega arith)) tt
-        go (yes h) (no k) = rw (le-leb n (largestItem S) h, ne-eqb (classOf n) c k) tt
-        go (yes h) (yes k) = rw (le-leb n (largestItem S) h, eq-eqb (classOf n) c k) (same k)
+        go : Dec (classOf n ≡ c) → StayedAs n a L end (cond (eqb (classOf n) c) (some (renewed S n o L)) none)
+        go (no k) = rw (ne-eqb (classOf n) c k) tt
+        go (yes k) = rw (eq-eqb (classOf n) c k) (same k)
 
     -- THE LAW: where the record stays, the layout is valid, and the same is live beside it
     stays-as : (f : Found) → find S a L ≡ f → StayedAs n a L end (stays S n f L)
     unfolding stays StayedAs
     stays-as nothing e = tt
     stays-as (thing o c k) e = item-stays o c k e
-    stays-as (block t) e = let k = block-found S good a (start S) (L .blocks) t e in block-stays n a v t (k .blocks) (k .at) (good .tags)
+    stays-as (block t) e = let k = block-found S good a (start S) (L .blocks) t e in block-stays n a v t e (k .blocks) (k .at) (good .tags)
 
     pub stays-stayed : (M : Layout) → stays S n (find S a L) L ≡ some M → Stayed n a L end M
     unfolding StayedAs

@@ -105,7 +105,7 @@ module _ (S : Shape) (end n : ℕ) where
         go (some t) e =
             let s : Split (needOf S n) L t = fit-some e in
             record {
-              valid = placed-valid S v s good (omega (arith, up-above (S .classes) n big)) (need-eight n (tags S) (good .tags));
+              valid = placed-valid S v s good (omega (arith, up-above (S .offered) n big)) (need-eight n (tags S) (good .tags));
               payload = placedPayload S v s good;
               at = refl;
               large = omega (arith, takes-of S (needOf S n) (t .size) (s .large) .enough);
@@ -120,5 +120,5 @@ module _ (S : Shape) (end n : ℕ) where
         g
       where
         go : Dec (n ≤ largestItem S) → Grants L (allocate S n L)
-        go (yes l) = rw (le-leb n (largestItem S) l) (item-grants (classOf n) L v (omega arith) refl)
+        go (yes l) = rw (le-leb n (largestItem S) l) (item-grants (classOf n) L v (omega (arith, good .offered)) refl)
         go (no l) = rw (lt-leb n (largestItem S) (omega arith)) (block-grants L v (omega arith))

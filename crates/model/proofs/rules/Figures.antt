@@ -1,4 +1,4 @@
--- Document 01's figures and 02 (iv)'s, computed from the definitions: one table, one statement. At 8 bytes a word only, as the figures are.
+-- Document 01's figures and those of 02's requests, computed from the definitions: one table, one statement. At 8 bytes a word only, as the figures are.
 use Prim.Native.Nat.{ℕ, zero, suc, _+_, _*_, _≤_, _<_}
 use native.Mathlib.Nat.{div-add-mod', mod-lt}
 use native.Mathlib.Omega.{arith}
@@ -7,7 +7,7 @@ use mathlib.Core.Bool.{cond}
 use mathlib.Core.List.{List, [], _∷_}
 use lib.Dec.{eqb}
 use Rattle.model.specs.Picture.{Word}
-use Rattle.model.specs.Shape.{wide, start, leastFree, itemSize, endOf}
+use Rattle.model.specs.Shape.{wide, allOffered, start, leastFree, itemSize, endOf}
 use Rattle.model.proofs.Sizes.{eight, page-items-bound}
 use Rattle.model.specs.Layout.{Layout, headOf, nextOf, useSize, sizeOf, ends, firstFree, header, slotWords, useWords, own, blockWords, headWords, fixedLow, fixedHigh, words}
 use Rattle.model.specs.Sound.{idleSlots, idleIn}
@@ -72,10 +72,10 @@ O = renewed wide 0 592 B
 K : Layout
 K = after (allocating 30) (freshOf 4800)
 
--- (ii): n calls one after the other, each from a number that is `by` more than the one before; two pages of the largest items, with 1 and 2 live; and the same with none live in the first
+-- (ii), (xi): n calls one after the other by the rule before, each from a number that is `by` more than the one before; two pages of a class that is closed now, with 1 and 2 live; and the same with none live in the first
 inTurn : ℕ → (ℕ → Call) → ℕ → ℕ → Layout → Layout
 inTurn zero q a by L = L
-inTurn (suc n) q a by L = inTurn n q (a + by) by (after (q a) L)
+inTurn (suc n) q a by L = inTurn n q (a + by) by (doing (allOffered wide) (q a) L .layout)
 
 Q : Layout
 Q = inTurn 15 freeing 328 264 (inTurn 18 allocating 256 0 H)
@@ -98,17 +98,18 @@ computed =
     ∷ gives (allocating 272) C ∷ word 600 (after (allocating 272) C)
     ∷ gives (allocating 273) C ∷ word 312 (after (allocating 273) C)
     ∷ word 640 D ∷ word 56 D ∷ says (freeing 648) D
-    ∷ says (allocating 256) (freshOf 4552) ∷ says (allocating 256) (freshOf 4551) ∷ says (allocating 1) (freshOf 4440) ∷ says (allocating 1) (freshOf 4439)
+    ∷ gives (allocating 256) (freshOf 584) ∷ word 312 (after (allocating 256) (freshOf 584)) ∷ says (allocating 256) (freshOf 583) ∷ says (allocating 1) (freshOf 4440) ∷ says (allocating 1) (freshOf 4439)
     ∷ gives (resizing 320 570) R ∷ word 312 (after (resizing 320 570) R) ∷ word 24 (after (resizing 320 570) R) ∷ word 928 (after (resizing 320 570) R)
     ∷ gives (resizing 320 568) R ∷ word 24 (after (resizing 320 568) R) ∷ word 896 (after (resizing 320 568) R)
     ∷ gives (resizing 320 700) R ∷ word 24 (after (resizing 320 700) R) ∷ word 1032 (after (resizing 320 700) R)
-    ∷ word 312 (after (allocating 257) H) ∷ says (freeing 48) P ∷ says (freeing 320) P
+    ∷ word 312 (after (allocating 257) H) ∷ word 312 (after (allocating 129) H) ∷ gives (allocating 128) (after (allocating 129) H) ∷ word 464 (after (allocating 128) (after (allocating 129) H)) ∷ says (freeing 48) P ∷ says (freeing 320) P
     ∷ gives (allocating 13) B ∷ shown 672 E ∷ word 664 E ∷ shown 672 (after (resizingBy staying 672 9) E) ∷ word 664 (after (resizingBy staying 672 9) E)
     ∷ gives (resizingBy moving 672 15) E ∷ shown 696 (after (resizingBy moving 672 15) E)
     ∷ shown 648 O ∷ word 640 O ∷ shown 648 (after (resizingBy staying 648 16) O) ∷ word 640 (after (resizingBy staying 648 16) O)
     ∷ gives (resizing 328 5) K ∷ shown 328 (after (resizing 328 5) K) ∷ shown 320 A
     ∷ gives sweeping D ∷ word 24 (after sweeping D) ∷ word 632 (after sweeping D) ∷ word 56 (after sweeping D) ∷ gives sweeping (after sweeping D)
-    ∷ gives (allocating 256) Q ∷ gives sweeping Q ∷ gives (allocating 256) (after sweeping Q)
+    ∷ word 296 Q ∷ gives (allocating 256) Q ∷ word 296 (after (allocating 256) Q) ∷ gives sweeping Q ∷ word 296 (after sweeping Q)
+    ∷ gives (resizingBy staying 4288 250) Q ∷ shown 4288 (after (resizingBy staying 4288 250) Q) ∷ gives (resizingBy moving 4288 256) Q ∷ shown 8800 (after (resizingBy moving 4288 256) Q) ∷ word 296 (after (resizingBy moving 4288 256) Q) ∷ word 296 (after (freeing 4288) Q)
     ∷ gives sweeping Z ∷ word 24 (after sweeping Z) ∷ word 312 (after sweeping Z) ∷ gives sweeping (after sweeping Z)
     ∷ counted (C .blocks) .freeBytes ∷ counted (C .blocks) .freeBlocks ∷ counted (C .blocks) .largestFree ∷ counted (C .blocks) .variables ∷ counted (C .blocks) .pages ∷ counted (C .blocks) .items
     ∷ []
@@ -124,17 +125,18 @@ expected =
     ∷ 320 ∷ 32
     ∷ 320 ∷ 322
     ∷ 9861 ∷ 592 ∷ 5
-    ∷ 0 ∷ 6 ∷ 0 ∷ 6
+    ∷ 320 ∷ 274 ∷ 6 ∷ 0 ∷ 6
     ∷ 320 ∷ 618 ∷ 928 ∷ 9072
     ∷ 320 ∷ 896 ∷ 9104
     ∷ 320 ∷ 1032 ∷ 8968
-    ∷ 282 ∷ 5 ∷ 5
+    ∷ 282 ∷ 154 ∷ 480 ∷ 4235 ∷ 5 ∷ 5
     ∷ 672 ∷ 13 ∷ 1671 ∷ 9 ∷ 1159
     ∷ 696 ∷ 15
     ∷ 16 ∷ 7 ∷ 16 ∷ 2055
     ∷ 328 ∷ 30 ∷ 304
     ∷ 1 ∷ 632 ∷ 9368 ∷ 0 ∷ 0
-    ∷ 4024 ∷ 0 ∷ 5096
+    ∷ 3968 ∷ 8800 ∷ 3968 ∷ 0 ∷ 5040
+    ∷ 4288 ∷ 250 ∷ 8800 ∷ 256 ∷ 4232 ∷ 4232
     ∷ 1 ∷ 312 ∷ 4240 ∷ 0
     ∷ 5568 ∷ 2 ∷ 5248 ∷ 0 ∷ 1 ∷ 1
     ∷ []

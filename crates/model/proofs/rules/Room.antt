@@ -90,12 +90,12 @@ module _ (S : Shape) where
   none-block need L f = rw f refl
 
   -- THE LAW: an allocation finds nothing exactly where there is no room
-  pub no-room : (end n : ℕ) (L : Layout) → Valid S end L → 1 ≤ n → ((c : ℕ) → 0 < S .perPage c) → (allocate S n L ≡ none) ↔ NoRoom S n L
+  pub no-room : S .offered ≤ S .classes → (end n : ℕ) (L : Layout) → Valid S end L → 1 ≤ n → ((c : ℕ) → 0 < S .perPage c) → (allocate S n L ≡ none) ↔ NoRoom S n L
   unfolding allocate
-  no-room end n L v some-byte per = (there, back (decLe n (largestItem S)))
+  no-room few end n L v some-byte per = (there, back (decLe n (largestItem S)))
     where
       small : n ≤ largestItem S → allocate S n L ≡ none → (getD (L .lists) (classOf n) [] ≡ []) × (fit (pageNeed S (classOf n)) (L .blocks) ≡ none)
-      small l e = item-none n (classOf n) L (omega (arith, v .classes)) (per (classOf n)) (getD (L .lists) (classOf n) []) (rw (le-leb n (largestItem S) l) at e)
+      small l e = item-none n (classOf n) L (omega (arith, few, v .classes)) (per (classOf n)) (getD (L .lists) (classOf n) []) (rw (le-leb n (largestItem S) l) at e)
 
       there : allocate S n L ≡ none → NoRoom S n L
       there e = (

@@ -1,0 +1,167 @@
+-- A class that is closed: its free items wait on their list, whatever call comes but a sweep, and nothing is live at them.
+use Prim.Native.Nat.{ℕ, zero, suc, _+_, _≤_, _<_}
+use mathlib.Core.Path.{_≡_, refl, sym, ap, subst, _∙_}
+use mathlib.Core.Bool.{cond, _&&_}
+use mathlib.Core.List.{List, [], _∷_}
+use mathlib.Core.Logic.{_⊎_, inl, inr, ⊎-elim}
+use mathlib.Core.Option.{Option, none, some}
+use native.Mathlib.Omega.{arith}
+use native.Mathlib.Decide.{decLe, decLt, ℕ-discrete}
+use lib.Dec.{eqb, leb}
+use lib.ListN.{length, getD, set, List·getD-eq-default}
+use lib.Seq.{getD-set-same, getD-set-other}
+use borrow.Author.Tests.{le-leb, lt-leb, eq-eqb, ne-eqb}
+use Rattle.model.specs.Shape.{Shape, largestItem, start, classOf, needOf, pageNeed, addressOf, itemAt}
+use Rattle.model.specs.Layout.{Block, Layout}
+use Rattle.model.specs.Sound.{times, idleItems, Valid}
+use Rattle.model.specs.Rules.{Spot, Made, Found, block, thing, nothing, fit, paged, fromList, fromPage, anItem, aBlock, allocate, find, freed, reshaped, shrunk, grown, stays}
+use Rattle.model.specs.Live.{_∈_, Payload, live}
+use Rattle.model.specs.Refusals.{notLive, noRoom}
+use Rattle.model.specs.Calls.{Outcome, GoodSize, found, without}
+use Rattle.model.specs.Promises.{Call, initialising, checking, allocating, freeing, resizing, resizingBy, sweeping, Waits}
+use Rattle.model.proofs.Good.{Good}
+use Rattle.model.proofs.rules.Sized.{good, bad, good-or-bad}
+use Rattle.model.proofs.rules.OnLayouts.{Done, refuse, grant, sizedOn, resizedOn, resizedByOn, doing}
+use Rattle.model.proofs.rules.ResizeWays.{Went, nowhere, inPlace, elsewhere, asItIs, noWay, went, went-by}
+use Rattle.model.proofs.items.Pop.{items-found}
+use Rattle.model.proofs.lives.ItemLives.{item-adds}
+
+-- what stands in a list is counted there
+counted : (o : ℕ) (l : List ℕ) → o ∈ l → 1 ≤ times o l
+unfolding _∈_ times
+counted o [] h = absurd h
+counted o (x ∷ l) (inl e) = rw (eq-eqb o x e) (omega arith)
+counted o (x ∷ l) (inr h) = omega (arith, counted o l h)
+
+module _ (S : Shape) where
+  -- nothing is live at an item that waits
+  pub waits-dead : Good S → {end : ℕ} {L : Layout} → Valid S end L → (c o : ℕ) → Waits c o L → (x : Payload) → x ∈ live S L → x .address ≡ addressOf S (itemAt S o) → ⊥
+  waits-dead good {end} {L} v c o h x i e = go (decLt c (S .classes))
+    where
+      go : Dec (c < S .classes) → ⊥
+      go (yes l) =
+          let f = items-found S c o (start S) (L .blocks) (omega arith) (omega (arith, v .listed c o l, counted o (getD (L .lists) c []) h)) in
+          item-adds S good L L (record { blocks = _; lists = [] }) (v .allowed) 0 c (itemAt S o) (f .there) (sym (f .free-item)) refl .new x i e
+      go (no l) = unfold times in omega (arith, counted o (getD (L .lists) c []) h, ap (times o) (List·getD-eq-default (L .lists) [] {n = c} (omega (arith, v .classes))))
+
+  module _ (c : ℕ) (closed : S .offered ≤ c) where
+    -- a list is set that is not c's
+    other : (ls : List (List ℕ)) (d : ℕ) (l : List ℕ) → d < S .offered → getD (set ls d l) c [] ≡ getD ls c []
+    other ls d l h = getD-set-other ls d c l [] (λ e. omega (arith, e))
+
+    -- the list is as it was where an allocation made something
+    abbrev Same : Layout → Option Made → Type 0
+    Same L none = Unit {0}
+    Same L (some m) = getD (m .layout .lists) c [] ≡ getD (L .lists) c []
+
+    list-same : (n d : ℕ) (L : Layout) → d < S .offered → (l : List ℕ) → Same L (fromList S n d L l)
+    unfolding fromList
+    list-same n d L h [] = tt
+    list-same n d L h (o ∷ os) = other (L .lists) d os h
+
+    page-same : (n d : ℕ) (L : Layout) → d < S .offered → (o : Option Spot) → Same L (fromPage S n d L o)
+    unfolding fromPage
+    page-same n d L h none = tt
+    page-same n d L h (some t) = go (fromList S n d (paged S d t L) (getD (paged S d t L .lists) d [])) (list-same n d (paged S d t L) h (getD (paged S d t L .lists) d []))
+      where
+        go : (o : Option Made) → Same (paged S d t L) o → Same L o
+        go none s = tt
+        go (some m) s = s ∙ other (L .lists) d _ h
+
+    item-same : (n d : ℕ) (L : Layout) → d < S .offered → (l : List ℕ) → Same L (anItem S n d L l)
+    unfolding anItem
+    item-same n d L h [] = page-same n d L h (fit (pageNeed S d) (L .blocks))
+    item-same n d L h (o ∷ os) = list-same n d L h (o ∷ os)
+
+    block-same : (need : ℕ) (L : Layout) (o : Option Spot) → Same L (aBlock S need L o)
+    unfolding aBlock
+    block-same need L none = tt
+    block-same need L (some t) = refl
+
+    pub allocate-same : (n : ℕ) (L : Layout) → 1 ≤ n → Same L (allocate S n L)
+    unfolding allocate
+    allocate-same n L one = go (decLe n (largestItem S))
+      where
+        go : Dec (n ≤ largestItem S) → Same L (allocate S n L)
+        go (yes l) = rw (le-leb n (largestItem S) l) (item-same n (classOf n) L (omega arith) (getD (L .lists) (classOf n) []))
+        go (no l) = rw (lt-leb n (largestItem S) (omega arith)) (block-same (needOf S n) L (fit (needOf S n) (L .blocks)))
+
+  -- in place no list changes
+  abbrev Lists : Layout → Option Layout → Type 0
+  Lists L none = Unit {0}
+  Lists L (some M) = M .lists ≡ L .lists
+
+  reshaped-lists : (need : ℕ) (t : Spot) (L : Layout) (o : Option (List Block)) → Lists L (reshaped S need t L o)
+  unfolding reshaped
+  reshaped-lists need t L none = tt
+  reshaped-lists need t L (some bs) = refl
+
+  pub stays-lists : (n : ℕ) (f : Found) (L : Layout) → Lists L (stays S n f L)
+  unfolding stays
+  stays-lists n nothing L = tt
+  stays-lists n (thing o c k) L = go (ℕ-discrete (classOf n) c)
+    where
+      go : Dec (classOf n ≡ c) → Lists L (stays S n (thing o c k) L)
+      go (yes e) = rw (eq-eqb (classOf n) c e) refl
+      go (no e) = rw (ne-eqb (classOf n) c e) tt
+  stays-lists n (block t) L = go (decLe n (largestItem S))
+    where
+      go : Dec (n ≤ largestItem S) → Lists L (stays S n (block t) L)
+      go (yes l) = rw (le-leb n (largestItem S) l) tt
+      go (no l) = rw (lt-leb n (largestItem S) (omega arith)) (reshaped-lists (needOf S n) t L _)
+
+  -- what is given back is put in front
+  pub without-waits : (a c o : ℕ) (L : Layout) → Waits c o L → Waits c o (without S a L)
+  unfolding freed
+  without-waits a c o L h = go (find S a L)
+    where
+      front : (d x : ℕ) → Dec (c ≡ d) → Dec (c < length (L .lists)) → o ∈ getD (set (L .lists) d (x ∷ getD (L .lists) d [])) c []
+      front d x (no e) l = rw (getD-set-other (L .lists) d c (x ∷ getD (L .lists) d []) [] e) h
+      front d x (yes e) (yes l) = rw (← e, getD-set-same (L .lists) c (x ∷ getD (L .lists) c []) [] l) (unfold _∈_ in inr h)
+      front d x (yes e) (no l) = absurd (unfold _∈_ in rw (List·getD-eq-default (L .lists) [] {n = c} (omega arith)) at h)
+
+      go : (f : Found) → Waits c o (freed S f L)
+      go nothing = h
+      go (block t) = h
+      go (thing x d k) = front d x (ℕ-discrete c d) (decLt c (length (L .lists)))
+
+  -- THE LAW: every call but a sweep leaves it on its list
+  module _ (c o : ℕ) (closed : S .offered ≤ c) where
+    made-waits : (n : ℕ) (L : Layout) (m : Made) → 1 ≤ n → allocate S n L ≡ some m → Waits c o L → Waits c o (m .layout)
+    made-waits n L m one e h = subst (λ (l : List ℕ). o ∈ l) (sym (subst (λ (x : Option Made). Same c closed L x) e (allocate-same c closed n L one))) h
+
+    stayed-waits : (n : ℕ) (f : Found) (L M : Layout) → stays S n f L ≡ some M → Waits c o L → Waits c o M
+    stayed-waits n f L M e h = subst (λ (ls : List (List ℕ)). o ∈ getD ls c []) (sym (subst (λ (x : Option Layout). Lists L x) e (stays-lists n f L))) h
+
+    went-waits : {a n : ℕ} {L : Layout} {x : Outcome} {d : Done} → Went S [] a n L x d → 1 ≤ n → Waits c o L → Waits c o (d .layout)
+    went-waits (nowhere e) one h = h
+    went-waits {a} {n} {L} (inPlace i M s) one h = stayed-waits n (find S a L) L M s h
+    went-waits {a} {n} {L} (elsewhere i m k) one h = without-waits a c o (m .layout) (made-waits n L m one k h)
+    went-waits (asItIs i k) one h = h
+    went-waits (noWay i) one h = h
+
+    sized-waits : (n : ℕ) (L : Layout) (d : Done) → (1 ≤ n → Waits c o (d .layout)) → Waits c o L → Waits c o (sizedOn S n L d .layout)
+    sized-waits n L d x h = go (good-or-bad S n)
+      where
+        go : Dec (GoodSize S n) → Waits c o (sizedOn S n L d .layout)
+        go (yes g) = rw (good S n g) (x (g .0))
+        go (no g) = rw (bad S n g) h
+
+    pub doing-waits : (q : Call) (L : Layout) → (q ≡ sweeping → ⊥) → Waits c o L → Waits c o (doing S q L .layout)
+    unfolding doing
+    doing-waits initialising L z h = h
+    doing-waits checking L z h = h
+    doing-waits (allocating n) L z h = go (allocate S n L) refl
+      where
+        go : (x : Option Made) → allocate S n L ≡ x → Waits c o (doing S (allocating n) L .layout)
+        go none e = rw e (sized-waits n L (refuse noRoom L) (λ one. h) h)
+        go (some m) e = rw e (sized-waits n L (grant (m .at) (m .layout)) (λ one. made-waits n L m one e h) h)
+    doing-waits (freeing a) L z h = go (find S a L) (without-waits a c o L h)
+      where
+        go : (f : Found) → Waits c o (freed S f L) → Waits c o (found S f (refuse notLive L) (grant 0 (freed S f L)) .layout)
+        go nothing k = h
+        go (block t) k = k
+        go (thing x d j) k = k
+    doing-waits (resizing a n) L z h = sized-waits n L (resizedOn S a n L) (λ one. went-waits (went S [] a n L) one h) h
+    doing-waits (resizingBy v a n) L z h = sized-waits n L (resizedByOn S v a n L) (λ one. went-waits (went-by S [] a n L v) one h) h
+    doing-waits sweeping L z h = absurd (z refl)
