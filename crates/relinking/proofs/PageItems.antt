@@ -1,7 +1,7 @@
 -- The items of a page: their headers, which of them are free, and where they are.
 use Prim.Native.Nat.{ℕ, zero, suc, _+_, _-_, _*_, _%_, _≤_, _<_}
 use mathlib.Core.Path.{_≡_, refl, sym, ap, subst, _∙_}
-use mathlib.Core.List.{List, [], _∷_, _++_}
+use mathlib.Core.List.{List, [], _∷_}
 use mathlib.Core.Logic.{inl, inr}
 use native.Mathlib.Omega.{arith}
 use lib.ListN.{length, getD, drop}
@@ -12,7 +12,7 @@ use Rattle.words.specs.Word.{wordAt}
 use Rattle.model.specs.Shape.{Shape, shape, start, index, itemSize, offsetOf, endOf}
 use Rattle.model.specs.Parts.{tagOf, pageKind, farTagAt, firstItemAt, usedIn}
 use Rattle.model.specs.Picture.{Shows}
-use Rattle.model.specs.Layout.{Slot, idle, held, page, Block, free, used, Layout, useSize, sizeOf, ends, header, slotWords, useWords, own}
+use Rattle.model.specs.Layout.{Slot, idle, held, page, used, Layout, useSize, sizeOf, header, slotWords, useWords, own}
 use Rattle.model.specs.Sound.{times, Allowed, AllowedUse, idleSlots, idleIn, idleItems}
 use Rattle.model.specs.Rules.{itemTo}
 use Rattle.model.specs.inner.Laid.{Laid}

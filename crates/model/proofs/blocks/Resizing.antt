@@ -1,12 +1,10 @@
 -- Resize in place: a block stays as it is, loses its tail, or grows over a free right neighbour.
 use Prim.Native.Nat.{ℕ, _+_, _-_, _%_, _≤_, _<_}
 use mathlib.Core.Path.{_≡_, refl, sym, ap, subst, _∙_}
-use mathlib.Core.Bool.{cond}
 use mathlib.Core.List.{List, [], _∷_, _++_}
-use mathlib.Core.Option.{Option, none, some}
+use mathlib.Core.Option.{none, some}
 use native.Mathlib.Omega.{arith}
 use native.Mathlib.Decide.{decLe, decLt}
-use lib.Dec.{leb}
 use borrow.Author.Tests.{le-leb, lt-leb, lt-ltb, le-ltb, eq-eqb, ne-eqb}
 use Rattle.model.specs.Shape.{Shape, start, tags, leastFree, largestItem, leastVariable, classOf, needOf}
 use Rattle.model.specs.Layout.{variable, Block, free, used, Layout, useSize, sizeOf, ends}

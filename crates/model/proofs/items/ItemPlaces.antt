@@ -1,6 +1,6 @@
 -- Where items have their headers: an allocation leaves each in its page, and no variable block begins there. (An item of a closed class may hold as much as a variable block, so its size does not tell which it is.)
 use Prim.Native.Nat.{ℕ, _+_, _≤_, _<_}
-use mathlib.Core.Path.{_≡_, refl, sym, ap, subst, _∙_}
+use mathlib.Core.Path.{_≡_, refl, sym, subst}
 use mathlib.Core.List.{List, [], _∷_, _++_}
 use mathlib.Core.Logic.{_⊎_, inl, inr, ⊎-elim}
 use mathlib.Core.Option.{Option, none, some}
@@ -8,19 +8,18 @@ use native.Mathlib.Omega.{arith}
 use native.Mathlib.Decide.{decLe}
 use lib.ListN.{getD}
 use borrow.Author.Tests.{le-leb, lt-leb}
-use Rattle.model.specs.Shape.{Shape, start, leastVariable, largestItem, classOf, needOf, pageNeed, itemSize}
+use Rattle.model.specs.Shape.{Shape, start, largestItem, classOf, needOf, pageNeed, itemSize}
 use Rattle.model.specs.Layout.{Slot, Use, variable, page, Block, free, used, Layout, useSize, sizeOf, ends}
-use Rattle.model.specs.Sound.{Allowed, AllowedUse, AllAllowed, Valid}
+use Rattle.model.specs.Sound.{Valid}
 use Rattle.model.specs.Rules.{Spot, Made, fit, spotAt, slotTo, useTo, itemTo, paged, fromList, fromPage, anItem, aBlock, allocate}
 use Rattle.model.specs.inner.Items.{InSlots, InUse, InBlocks}
 use Rattle.model.specs.inner.Links.{takes}
 use Rattle.model.specs.inner.Walks.{Split}
 use Rattle.model.proofs.Good.{Good}
-use Rattle.model.proofs.blocks.Blocks.{le-ends}
 use Rattle.model.proofs.blocks.Spots.{fit-some}
 use Rattle.model.proofs.blocks.Taken.{parts, takes-of}
 use Rattle.model.proofs.blocks.Placed.{placed-as}
-use Rattle.model.proofs.items.Items.{use-range, blocks-range, size-useTo}
+use Rattle.model.proofs.items.Items.{blocks-range, size-useTo}
 use Rattle.model.proofs.items.Paged.{parts-ends, pageOf, page-size, pageTakes, paged-as}
 
 module _ (S : Shape) where

@@ -10,8 +10,8 @@ use Rattle.model.specs.Picture.{Word, Shows}
 use Rattle.model.specs.Shape.{Shape, allOffered, start, index, itemSize, itemCapacity, itemShown, addressOf, offsetOf, endOf}
 use Rattle.model.specs.Parts.{firstItemAt}
 use Rattle.model.specs.Layout.{Slot, idle, held, Use, variable, page, Block, free, used, Layout, headOf, ifFree, useSize, sizeOf, ends, firstFree, header, slotWords, useWords, own, blockWords, headWords, fixedLow, fixedHigh, words}
-use Rattle.model.specs.Sound.{times, Allowed, AllowedUse, AllAllowed, idleSlots, idleIn, idleItems, Valid, Here, Sound}
-use Rattle.model.specs.Live.{Payload, slotsLive, useLive, liveFrom, live}
+use Rattle.model.specs.Sound.{times, Allowed, AllowedUse, AllAllowed, idleSlots, idleIn, idleItems, Valid, Here}
+use Rattle.model.specs.Live.{Payload, slotsLive, useLive, liveFrom}
 use Rattle.model.specs.Promises.{SoundBefore, LayoutBefore}
 use Rattle.model.proofs.Good.{Good}
 

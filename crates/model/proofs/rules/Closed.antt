@@ -1,20 +1,18 @@
 -- A class that is closed: its free items wait on their list, whatever call comes but a sweep, and nothing is live at them.
-use Prim.Native.Nat.{ℕ, zero, suc, _+_, _≤_, _<_}
+use Prim.Native.Nat.{ℕ, _≤_, _<_}
 use mathlib.Core.Path.{_≡_, refl, sym, ap, subst, _∙_}
-use mathlib.Core.Bool.{cond, _&&_}
 use mathlib.Core.List.{List, [], _∷_}
-use mathlib.Core.Logic.{_⊎_, inl, inr, ⊎-elim}
+use mathlib.Core.Logic.{inl, inr}
 use mathlib.Core.Option.{Option, none, some}
 use native.Mathlib.Omega.{arith}
 use native.Mathlib.Decide.{decLe, decLt, ℕ-discrete}
-use lib.Dec.{eqb, leb}
 use lib.ListN.{length, getD, set, List·getD-eq-default}
 use lib.Seq.{getD-set-same, getD-set-other}
 use borrow.Author.Tests.{le-leb, lt-leb, eq-eqb, ne-eqb}
 use Rattle.model.specs.Shape.{Shape, largestItem, start, classOf, needOf, pageNeed, addressOf, itemAt}
 use Rattle.model.specs.Layout.{Block, Layout}
-use Rattle.model.specs.Sound.{times, idleItems, Valid}
-use Rattle.model.specs.Rules.{Spot, Made, Found, block, thing, nothing, fit, paged, fromList, fromPage, anItem, aBlock, allocate, find, freed, reshaped, shrunk, grown, stays}
+use Rattle.model.specs.Sound.{times, Valid}
+use Rattle.model.specs.Rules.{Spot, Made, Found, block, thing, nothing, fit, paged, fromList, fromPage, anItem, aBlock, allocate, find, freed, reshaped, stays}
 use Rattle.model.specs.Live.{_∈_, Payload, live}
 use Rattle.model.specs.Refusals.{notLive, noRoom}
 use Rattle.model.specs.Calls.{Outcome, GoodSize, found, without}
