@@ -4,7 +4,7 @@
 N ?= 100000
 DAMAGED ?= 5000
 ASKED ?= 2000
-SHOWN ?= 400
+SHOWN ?= 200
 SEED ?= 1
 # install: where to.
 PREFIX ?= /usr/local

@@ -42,7 +42,7 @@ TIME_LIMIT = 120  # seconds for one batch, of which an emulator needs some
 STACK = struct.Struct("<QQQ")  # what the driver says last
 PARTS = 2  # processes side by side: each takes every second figure, class, run and group of damaged heaps
 PAIRS = 20  # runs on a heap and on a longer one
-SWEPT = 300  # heaps that are swept above all
+SWEPT_SHARE = 333  # for so many calls in random runs there is a heap that is swept above all
 # Classes whose pages fill the longest heap, and which shares of these pages are in use: the most items that there can be, in
 # pages of which many are empty; and the most pages, which all stay or all go.
 SWEPT_PAGES = {WIDE: ((0, (0, 0.5, 0.9, 1)), (1, (0.1, 0.5, 0.9, 1)), (1, (0,)), (WIDE.closed[0], (0, 0.5, 0.9, 1))),
@@ -439,7 +439,7 @@ def part_of_runs(part, chosen, counts, damaged_counts):
     yield from size_runs(shape, range(shape.classes)[part::PARTS], counts)
     yield from longer_runs(shape, seed, itertools.islice(labels("longer"), PAIRS // PARTS), counts)
     yield from swept_runs(shape, seed, [f"pages:{index}" for index in range(len(SWEPT_PAGES[shape]))][part::PARTS], counts)
-    yield from swept_runs(shape, seed, itertools.islice(labels("swept"), SWEPT // PARTS), counts)
+    yield from swept_runs(shape, seed, itertools.islice(labels("swept"), chosen.number // SWEPT_SHARE // PARTS), counts)
     yield from random_runs(shape, seed, labels("run"), chosen.number / PARTS, counts)
     yield from all_damaged_runs(shape, seed, labels("damaged"), chosen.damaged / PARTS, damaged_counts)
 

@@ -8,7 +8,8 @@ from damage import Patient, bytes_that_may_be_anything, damaged
 from runs import HABITS, heap_with_old_pages, other_magic, sound_heap, what_is_old
 from second import HAND, SHAPES, WIDE, Heap
 
-# Damaged heaps made from the same sound one: by a way that leaves it sound, by one that does not, and by any; of a long one, one of these.
+# Damaged heaps made from the same sound one: by a way that leaves it sound, by one that does not, and by any; of a long one only
+# one of them.
 VERDICTS = (True, False, None)
 OLD_HEAPS = 8  # with pages of closed classes, beside those that come by chance
 

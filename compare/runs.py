@@ -459,12 +459,13 @@ class Player:
         return self.rng.choice(self.size_makers)()
 
     def new_size(self, address):
-        """A size for a resize: near the old one, near what is there with the right neighbour, or any."""
+        """A size for a resize: near the old one, near what is there with the right neighbour, or any; for an item of a closed
+        class often one of its own sizes, or one of an item that is handed out."""
         state, record = self.run.heap.state, self.run.record(address)
         if record is None or self.rng.random() < 0.4:
             return self.size()
-        if record.is_closed() and self.rng.random() < 0.3:
-            return self.rng.choice(sizes_of(record.c))
+        if record.is_closed() and self.rng.random() < 0.5:
+            return self.rng.choice((self.rng.choice(sizes_of(record.c)), self.small()))
         capacity = record.capacity
         right = address + capacity + self.shape.word
         if self.rng.random() < 0.5 and state.is_free(right):
