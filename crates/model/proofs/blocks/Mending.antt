@@ -5,19 +5,18 @@ use mathlib.Core.List.{List, [], _∷_, _++_, append-assoc}
 use mathlib.Core.Logic.{_⊎_, inl, inr, ⊎-elim}
 use mathlib.Core.Option.{Option, none, some}
 use native.Mathlib.Omega.{arith}
-use native.Mathlib.Decide.{decLe, decLt}
-use lib.ListN.{getD}
-use borrow.Author.Tests.{le-leb, lt-leb, lt-ltb, le-ltb}
-use Rattle.model.specs.Shape.{Shape, start, largestItem, classOf, needOf, pageNeed, itemAt}
+use native.Mathlib.Decide.{decLt}
+use borrow.Author.Tests.{lt-ltb, le-ltb}
+use Rattle.model.specs.Shape.{Shape, start, classOf, needOf, pageNeed, itemAt}
 use Rattle.model.specs.Layout.{Slot, held, Use, variable, Block, free, used, Layout, ifFree, useSize, sizeOf, ends}
 use Rattle.model.specs.Sound.{Valid}
-use Rattle.model.specs.Rules.{Spot, Made, fit, useTo, itemTo, popped, paged, fromList, fromPage, anItem, aBlock, allocate, placed, asVariable}
+use Rattle.model.specs.Rules.{Made, useTo, itemTo, popped, paged, allocate, placed, asVariable}
 use Rattle.model.proofs.blocks.Blocks.{ends-append, last-append}
-use Rattle.model.specs.inner.Walks.{lastFree, endsFree, Split, Stands, Mend}
+use Rattle.model.specs.inner.Walks.{lastFree, endsFree, Stands, Mend}
 use Rattle.model.proofs.blocks.Valid.{ends-free-append}
 use Rattle.model.proofs.items.Items.{size-useTo}
 use Rattle.model.proofs.items.ItemValid.{ends-itemTo}
-use Rattle.model.proofs.blocks.Spots.{fit-some}
+use Rattle.model.proofs.rules.Makings.{Makes, nothingFits, anyItem, newPage, ownBlock, makes}
 use Rattle.model.proofs.blocks.Taken.{parts, takes-of}
 use Rattle.model.specs.inner.Links.{takes}
 use Rattle.model.proofs.Good.{Good}
@@ -304,42 +303,25 @@ module _ (S : Shape) where
     Mends none = Unit {0}
     Mends (some m) = Mend S (m .layout) p s prev left before
 
-    from-list : (c : ℕ) (M : Layout) → Mend S M p s prev left before → (os : List ℕ) → Mends (fromList S n c M os)
-    unfolding Mends fromList
-    from-list c M g [] = tt
-    from-list c M g (o ∷ os) = item-mends (held n) (itemAt S o) M (popped S n c o os M) refl p s prev left before g
+    popped-mends : (c o : ℕ) (os : List ℕ) (M : Layout) → Mend S M p s prev left before → Mend S (popped S n c o os M) p s prev left before
+    popped-mends c o os M g = item-mends (held n) (itemAt S o) M (popped S n c o os M) refl p s prev left before g
 
-    from-page : (c : ℕ) (o : Option Spot) → fit (pageNeed S c) (L .blocks) ≡ o → Mends (fromPage S n c L o)
-    unfolding Mends fromPage
-    from-page c none e = tt
-    from-page c (some t) e =
-        let d : Split (pageNeed S c) L t = fit-some e in
+    made-mends : {x : Option Made} → Makes S n L x → Mends x
+    unfolding Mends useSize
+    made-mends nothingFits = tt
+    made-mends (anyItem i o os e) = popped-mends (classOf n) o os L (inl h)
+    made-mends (newPage i e t d o os f) =
+        let c = classOf n in
         let u = pageTakes S c t in
         let k = takes-of S (pageNeed S c) (t .size) (d .large) in
-        from-list c (paged S c t L)
+        popped-mends c o os (paged S c t L)
         (taken-mends L (paged S c t L) (t .pre) (t .post) (t .size) u (pageOf S c u) (d .blocks) (ap (λ (M : Layout). M .blocks) (paged-as S c (ends S (start S) (t .pre)) v d refl good)) (page-size S c u (k .enough)) (k .within) p s prev left before h b)
-        (getD (paged S c t L .lists) c [])
-
-    an-item : (c : ℕ) (os : List ℕ) → Mends (anItem S n c L os)
-    unfolding anItem
-    an-item c [] = from-page c (fit (pageNeed S c) (L .blocks)) refl
-    an-item c (o ∷ os) = from-list c L (inl h) (o ∷ os)
-
-    a-block : (need : ℕ) (o : Option Spot) → fit need (L .blocks) ≡ o → Mends (aBlock S need L o)
-    unfolding Mends aBlock useSize
-    a-block need none e = tt
-    a-block need (some t) e =
-        let d : Split need L t = fit-some e in
+    made-mends (ownBlock i t d) =
+        let need = needOf S n in
         let u = takes S need (t .size) in
         let k = takes-of S need (t .size) (d .large) in
         taken-mends L (record { blocks = placed S need (asVariable S) t; lists = L .lists }) (t .pre) (t .post) (t .size) u (variable u) (d .blocks) (ap (λ (M : Layout). M .blocks) (placed-as S v d good)) refl (k .within) p s prev left before h b
 
     pub allocate-mends : (m : Made) → allocate S n L ≡ some m → Mend S (m .layout) p s prev left before
-    unfolding allocate Mends
-    allocate-mends m e =
-        let g : Mends (some m) = subst (λ (o : Option Made). Mends o) e (go (decLe n (largestItem S))) in
-        g
-      where
-        go : Dec (n ≤ largestItem S) → Mends (allocate S n L)
-        go (yes l) = rw (le-leb n (largestItem S) l) (an-item (classOf n) (getD (L .lists) (classOf n) []))
-        go (no l) = rw (lt-leb n (largestItem S) (omega arith)) (a-block (needOf S n) (fit (needOf S n) (L .blocks)) refl)
+    unfolding Mends
+    allocate-mends m e = let g : Mends (some m) = subst (λ (o : Option Made). Mends o) e (made-mends (makes S n L)) in g

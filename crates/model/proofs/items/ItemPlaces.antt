@@ -5,20 +5,17 @@ use mathlib.Core.List.{List, [], _∷_, _++_}
 use mathlib.Core.Logic.{_⊎_, inl, inr, ⊎-elim}
 use mathlib.Core.Option.{Option, none, some}
 use native.Mathlib.Omega.{arith}
-use native.Mathlib.Decide.{decLe}
-use lib.ListN.{getD}
-use borrow.Author.Tests.{le-leb, lt-leb}
-use Rattle.model.specs.Shape.{Shape, start, largestItem, classOf, needOf, pageNeed, itemSize}
-use Rattle.model.specs.Layout.{Slot, Use, variable, page, Block, free, used, Layout, useSize, sizeOf, ends}
+use Rattle.model.specs.Shape.{Shape, start, classOf, needOf, pageNeed, itemSize, itemAt}
+use Rattle.model.specs.Layout.{Slot, held, Use, variable, page, Block, free, used, Layout, useSize, sizeOf, ends}
 use Rattle.model.specs.Sound.{Valid}
-use Rattle.model.specs.Rules.{Spot, Made, fit, spotAt, slotTo, useTo, itemTo, paged, fromList, fromPage, anItem, aBlock, allocate}
+use Rattle.model.specs.Rules.{Spot, Made, spotAt, slotTo, useTo, itemTo, paged, allocate}
 use Rattle.model.specs.inner.Items.{InSlots, InUse, InBlocks}
 use Rattle.model.specs.inner.Links.{takes}
 use Rattle.model.specs.inner.Walks.{Split}
 use Rattle.model.proofs.Good.{Good}
-use Rattle.model.proofs.blocks.Spots.{fit-some}
 use Rattle.model.proofs.blocks.Taken.{parts, takes-of}
 use Rattle.model.proofs.blocks.Placed.{placed-as}
+use Rattle.model.proofs.rules.Makings.{Makes, nothingFits, anyItem, newPage, ownBlock, makes}
 use Rattle.model.proofs.items.Items.{blocks-range, size-useTo}
 use Rattle.model.proofs.items.Paged.{parts-ends, pageOf, page-size, pageTakes, paged-as}
 
@@ -90,41 +87,23 @@ module _ (S : Shape) where
       Still none = Unit {0}
       Still (some m) = InBlocks S c q (start S) (m .layout .blocks)
 
-      list-still : (d : ℕ) (M : Layout) → InBlocks S c q (start S) (M .blocks) → (l : List ℕ) → Still (fromList S n d M l)
-      unfolding fromList
-      list-still d M h [] = tt
-      list-still d M h (o ∷ os) = blocks-to _ _ c q (start S) (M .blocks) h
+      -- where a free block is taken
+      still-in : {need : ℕ} (t : Spot) → Split need L t → (u : ℕ) (U : Use) → useSize S U ≡ u → u ≤ t .size → InBlocks S c q (start S) (t .pre ++ (parts S u (t .size) U ++ t .post))
+      still-in t s u U e l = in-taken (start S) (t .size) (t .pre) (parts S u (t .size) U) (t .post) (parts-ends S (t .size) u U e l (spotAt S t)) (rw (s .blocks) at there)
 
-      page-still : (d : ℕ) (o : Option Spot) → fit (pageNeed S d) (L .blocks) ≡ o → Still (fromPage S n d L o)
-      unfolding fromPage
-      page-still d none e = tt
-      page-still d (some t) e =
-          let s : Split (pageNeed S d) L t = fit-some e in
+      made-still : {x : Option Made} → Makes S n L x → Still x
+      unfolding useSize
+      made-still nothingFits = tt
+      made-still (anyItem h o os e) = blocks-to (held n) (itemAt S o) c q (start S) (L .blocks) there
+      made-still (newPage h e t s o os k) =
+          let d = classOf n in
           let u = pageTakes S d t in
-          let k = takes-of S (pageNeed S d) (t .size) (s .large) in
-          list-still d (paged S d t L)
-          (subst (λ (M : Layout). InBlocks S c q (start S) (M .blocks)) (sym (paged-as S d (spotAt S t) v s refl good))
-          (in-taken (start S) (t .size) (t .pre) (parts S u (t .size) (pageOf S d u)) (t .post) (parts-ends S (t .size) u (pageOf S d u) (page-size S d u (k .enough)) (k .within) (spotAt S t)) (rw (s .blocks) at there)))
-          (getD (paged S d t L .lists) d [])
-
-      item-still : (d : ℕ) (l : List ℕ) → Still (anItem S n d L l)
-      unfolding anItem
-      item-still d [] = page-still d (fit (pageNeed S d) (L .blocks)) refl
-      item-still d (o ∷ os) = list-still d L there (o ∷ os)
-
-      block-still : (need : ℕ) (o : Option Spot) → fit need (L .blocks) ≡ o → Still (aBlock S need L o)
-      unfolding aBlock useSize
-      block-still need none e = tt
-      block-still need (some t) e =
-          let s : Split need L t = fit-some e in
-          let u = takes S need (t .size) in
-          subst (λ (M : Layout). InBlocks S c q (start S) (M .blocks)) (sym (placed-as S v s good))
-          (in-taken (start S) (t .size) (t .pre) (parts S u (t .size) (variable u)) (t .post) (parts-ends S (t .size) u (variable u) refl (takes-of S need (t .size) (s .large) .within) (spotAt S t)) (rw (s .blocks) at there))
+          let z = takes-of S (pageNeed S d) (t .size) (s .large) in
+          blocks-to (held n) (itemAt S o) c q (start S) (paged S d t L .blocks)
+          (subst (λ (M : Layout). InBlocks S c q (start S) (M .blocks)) (sym (paged-as S d (spotAt S t) v s refl good)) (still-in t s u (pageOf S d u) (page-size S d u (z .enough)) (z .within)))
+      made-still (ownBlock h t s) =
+          let u = takes S (needOf S n) (t .size) in
+          subst (λ (M : Layout). InBlocks S c q (start S) (M .blocks)) (sym (placed-as S v s good)) (still-in t s u (variable u) refl (takes-of S (needOf S n) (t .size) (s .large) .within))
 
       pub allocate-still : (m : Made) → allocate S n L ≡ some m → InBlocks S c q (start S) (m .layout .blocks)
-      unfolding allocate
-      allocate-still m e = let g : Still (some m) = subst Still e (go (decLe n (largestItem S))) in g
-        where
-          go : Dec (n ≤ largestItem S) → Still (allocate S n L)
-          go (yes l) = rw (le-leb n (largestItem S) l) (item-still (classOf n) (getD (L .lists) (classOf n) []))
-          go (no l) = rw (lt-leb n (largestItem S) (omega arith)) (block-still (needOf S n) (fit (needOf S n) (L .blocks)) refl)
+      allocate-still m e = let g : Still (some m) = subst Still e (made-still (makes S n L)) in g

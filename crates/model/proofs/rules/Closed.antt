@@ -9,15 +9,16 @@ use native.Mathlib.Decide.{decLe, decLt, ℕ-discrete}
 use lib.ListN.{length, getD, set, List·getD-eq-default}
 use lib.Seq.{getD-set-same, getD-set-other}
 use borrow.Author.Tests.{le-leb, lt-leb, eq-eqb, ne-eqb}
-use Rattle.model.specs.Shape.{Shape, largestItem, start, classOf, needOf, pageNeed, addressOf, itemAt}
+use Rattle.model.specs.Shape.{Shape, largestItem, start, classOf, needOf, addressOf, itemAt}
 use Rattle.model.specs.Layout.{Block, Layout}
 use Rattle.model.specs.Sound.{times, Valid}
-use Rattle.model.specs.Rules.{Spot, Made, Found, block, thing, nothing, fit, paged, fromList, fromPage, anItem, aBlock, allocate, find, freed, reshaped, stays}
+use Rattle.model.specs.Rules.{Spot, Made, Found, block, thing, nothing, paged, allocate, find, freed, reshaped, stays}
 use Rattle.model.specs.Live.{_∈_, Payload, live}
 use Rattle.model.specs.Refusals.{notLive, noRoom}
 use Rattle.model.specs.Calls.{Outcome, GoodSize, found, without}
 use Rattle.model.specs.Promises.{Call, initialising, checking, allocating, freeing, resizing, resizingBy, sweeping, Waits}
 use Rattle.model.proofs.Good.{Good}
+use Rattle.model.proofs.rules.Makings.{Makes, nothingFits, anyItem, newPage, ownBlock, makes}
 use Rattle.model.proofs.rules.Sized.{good, bad, good-or-bad}
 use Rattle.model.proofs.rules.OnLayouts.{Done, refuse, grant, sizedOn, resizedOn, resizedByOn, doing}
 use Rattle.model.proofs.rules.ResizeWays.{Went, nowhere, inPlace, elsewhere, asItIs, noWay, went, went-by}
@@ -52,37 +53,11 @@ module _ (S : Shape) where
     Same L none = Unit {0}
     Same L (some m) = getD (m .layout .lists) c [] ≡ getD (L .lists) c []
 
-    list-same : (n d : ℕ) (L : Layout) → d < S .offered → (l : List ℕ) → Same L (fromList S n d L l)
-    unfolding fromList
-    list-same n d L h [] = tt
-    list-same n d L h (o ∷ os) = other (L .lists) d os h
-
-    page-same : (n d : ℕ) (L : Layout) → d < S .offered → (o : Option Spot) → Same L (fromPage S n d L o)
-    unfolding fromPage
-    page-same n d L h none = tt
-    page-same n d L h (some t) = go (fromList S n d (paged S d t L) (getD (paged S d t L .lists) d [])) (list-same n d (paged S d t L) h (getD (paged S d t L .lists) d []))
-      where
-        go : (o : Option Made) → Same (paged S d t L) o → Same L o
-        go none s = tt
-        go (some m) s = s ∙ other (L .lists) d _ h
-
-    item-same : (n d : ℕ) (L : Layout) → d < S .offered → (l : List ℕ) → Same L (anItem S n d L l)
-    unfolding anItem
-    item-same n d L h [] = page-same n d L h (fit (pageNeed S d) (L .blocks))
-    item-same n d L h (o ∷ os) = list-same n d L h (o ∷ os)
-
-    block-same : (need : ℕ) (L : Layout) (o : Option Spot) → Same L (aBlock S need L o)
-    unfolding aBlock
-    block-same need L none = tt
-    block-same need L (some t) = refl
-
-    pub allocate-same : (n : ℕ) (L : Layout) → 1 ≤ n → Same L (allocate S n L)
-    unfolding allocate
-    allocate-same n L one = go (decLe n (largestItem S))
-      where
-        go : Dec (n ≤ largestItem S) → Same L (allocate S n L)
-        go (yes l) = rw (le-leb n (largestItem S) l) (item-same n (classOf n) L (omega arith) (getD (L .lists) (classOf n) []))
-        go (no l) = rw (lt-leb n (largestItem S) (omega arith)) (block-same (needOf S n) L (fit (needOf S n) (L .blocks)))
+    made-same : {n : ℕ} {L : Layout} {x : Option Made} → 1 ≤ n → Makes S n L x → Same L x
+    made-same one nothingFits = tt
+    made-same {n} {L} one (anyItem h o os e) = other (L .lists) (classOf n) os (omega arith)
+    made-same {n} {L} one (newPage h e t s o os k) = other (paged S (classOf n) t L .lists) (classOf n) os (omega arith) ∙ other (L .lists) (classOf n) _ (omega arith)
+    made-same one (ownBlock h t s) = refl
 
   -- in place no list changes
   abbrev Lists : Layout → Option Layout → Type 0
@@ -126,7 +101,7 @@ module _ (S : Shape) where
   -- THE LAW: every call but a sweep leaves it on its list
   module _ (c o : ℕ) (closed : S .offered ≤ c) where
     made-waits : (n : ℕ) (L : Layout) (m : Made) → 1 ≤ n → allocate S n L ≡ some m → Waits c o L → Waits c o (m .layout)
-    made-waits n L m one e h = subst (λ (l : List ℕ). o ∈ l) (sym (subst (λ (x : Option Made). Same c closed L x) e (allocate-same c closed n L one))) h
+    made-waits n L m one e h = subst (λ (l : List ℕ). o ∈ l) (sym (subst (λ (x : Option Made). Same c closed L x) e (made-same c closed one (makes S n L)))) h
 
     stayed-waits : (n : ℕ) (f : Found) (L M : Layout) → stays S n f L ≡ some M → Waits c o L → Waits c o M
     stayed-waits n f L M e h = subst (λ (ls : List (List ℕ)). o ∈ getD ls c []) (sym (subst (λ (x : Option Layout). Lists L x) e (stays-lists n f L))) h
