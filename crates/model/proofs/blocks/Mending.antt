@@ -16,7 +16,7 @@ use Rattle.model.specs.inner.Walks.{lastFree, endsFree, Stands, Mend}
 use Rattle.model.proofs.blocks.Valid.{ends-free-append}
 use Rattle.model.proofs.items.Items.{size-useTo}
 use Rattle.model.proofs.items.ItemValid.{ends-itemTo}
-use Rattle.model.proofs.rules.Makings.{Makes, nothingFits, anyItem, newPage, ownBlock, makes}
+use Rattle.model.proofs.rules.Makings.{Makes, nothingFits, listedItem, newPage, ownBlock, makes}
 use Rattle.model.proofs.blocks.Taken.{parts, takes-of}
 use Rattle.model.specs.inner.Links.{takes}
 use Rattle.model.proofs.Good.{Good}
@@ -309,7 +309,7 @@ module _ (S : Shape) where
     made-mends : {x : Option Made} → Makes S n L x → Mends x
     unfolding Mends useSize
     made-mends nothingFits = tt
-    made-mends (anyItem i o os e) = popped-mends (classOf n) o os L (inl h)
+    made-mends (listedItem i o os e) = popped-mends (classOf n) o os L (inl h)
     made-mends (newPage i e t d o os f) =
         let c = classOf n in
         let u = pageTakes S c t in

@@ -15,7 +15,7 @@ use Rattle.model.specs.inner.Walks.{Split}
 use Rattle.model.proofs.Good.{Good}
 use Rattle.model.proofs.blocks.Taken.{parts, takes-of}
 use Rattle.model.proofs.blocks.Placed.{placed-as}
-use Rattle.model.proofs.rules.Makings.{Makes, nothingFits, anyItem, newPage, ownBlock, makes}
+use Rattle.model.proofs.rules.Makings.{Makes, nothingFits, listedItem, newPage, ownBlock, makes}
 use Rattle.model.proofs.items.Items.{blocks-range, size-useTo}
 use Rattle.model.proofs.items.Paged.{parts-ends, pageOf, page-size, pageTakes, paged-as}
 
@@ -94,7 +94,7 @@ module _ (S : Shape) where
       made-still : {x : Option Made} → Makes S n L x → Still x
       unfolding useSize
       made-still nothingFits = tt
-      made-still (anyItem h o os e) = blocks-to (held n) (itemAt S o) c q (start S) (L .blocks) there
+      made-still (listedItem h o os e) = blocks-to (held n) (itemAt S o) c q (start S) (L .blocks) there
       made-still (newPage h e t s o os k) =
           let d = classOf n in
           let u = pageTakes S d t in

@@ -13,7 +13,7 @@ use Rattle.model.specs.Rules.{Made, popped, paged, allocate, spotAt}
 use Rattle.model.specs.Live.{_∈_, Payload, live}
 use Rattle.model.proofs.items.Asked.{within-own, within-capacity, shown-asked}
 use Rattle.model.proofs.items.Pop.{pop-valid}
-use Rattle.model.proofs.rules.Makings.{Makes, nothingFits, anyItem, newPage, ownBlock, makes}
+use Rattle.model.proofs.rules.Makings.{Makes, nothingFits, listedItem, newPage, ownBlock, makes}
 use Rattle.model.proofs.blocks.Taken.{takes-of}
 use Rattle.model.proofs.blocks.Placed.{placed-valid}
 use Rattle.model.proofs.Sizes.{up-above, need-eight}
@@ -69,7 +69,7 @@ module _ (S : Shape) (end n : ℕ) where
     made-grants : {L : Layout} {x : Option Made} → Valid S end L → Makes S n L x → Grants L x
     unfolding Grants
     made-grants v nothingFits = tt
-    made-grants {L} v (anyItem i o os e) = popped-grants (classOf n) o os L v (omega (arith, good .offered)) refl e
+    made-grants {L} v (listedItem i o os e) = popped-grants (classOf n) o os L v (omega (arith, good .offered)) refl e
     made-grants {L} v (newPage i empty t s o os e) =
         let c = classOf n in
         let few : c < S .classes = omega (arith, good .offered) in

@@ -18,7 +18,7 @@ use Rattle.model.specs.Refusals.{notLive, noRoom}
 use Rattle.model.specs.Calls.{Outcome, GoodSize, found, without}
 use Rattle.model.specs.Promises.{Call, initialising, checking, allocating, freeing, resizing, resizingBy, sweeping, Waits}
 use Rattle.model.proofs.Good.{Good}
-use Rattle.model.proofs.rules.Makings.{Makes, nothingFits, anyItem, newPage, ownBlock, makes}
+use Rattle.model.proofs.rules.Makings.{Makes, nothingFits, listedItem, newPage, ownBlock, makes}
 use Rattle.model.proofs.rules.Sized.{good, bad, good-or-bad}
 use Rattle.model.proofs.rules.OnLayouts.{Done, refuse, grant, sizedOn, resizedOn, resizedByOn, doing}
 use Rattle.model.proofs.rules.ResizeWays.{Went, nowhere, inPlace, elsewhere, asItIs, noWay, went, went-by}
@@ -55,7 +55,7 @@ module _ (S : Shape) where
 
     made-same : {n : ℕ} {L : Layout} {x : Option Made} → 1 ≤ n → Makes S n L x → Same L x
     made-same one nothingFits = tt
-    made-same {n} {L} one (anyItem h o os e) = other (L .lists) (classOf n) os (omega arith)
+    made-same {n} {L} one (listedItem h o os e) = other (L .lists) (classOf n) os (omega arith)
     made-same {n} {L} one (newPage h e t s o os k) = other (paged S (classOf n) t L .lists) (classOf n) os (omega arith) ∙ other (L .lists) (classOf n) _ (omega arith)
     made-same one (ownBlock h t s) = refl
 

@@ -18,10 +18,10 @@ module _ (S : Shape) (n : ℕ) (L : Layout) where
   abbrev taken : Layout → ℕ → List ℕ → Option Made
   taken M o os = some (record { at = addressOf S (itemAt S o); layout = popped S n (classOf n) o os M })
 
-  -- nothing; an item of the list; one of a new page, where the list is empty; a block
+  -- nothing; the first item of the list; that of a new page, where the list is empty; a block
   pub data Makes : Option Made → Type 0 where
     nothingFits : Makes none
-    anyItem : n ≤ largestItem S → (o : ℕ) (os : List ℕ) → getD (L .lists) (classOf n) [] ≡ o ∷ os → Makes (taken L o os)
+    listedItem : n ≤ largestItem S → (o : ℕ) (os : List ℕ) → getD (L .lists) (classOf n) [] ≡ o ∷ os → Makes (taken L o os)
     newPage : n ≤ largestItem S → getD (L .lists) (classOf n) [] ≡ [] → (t : Spot) → Split (pageNeed S (classOf n)) L t
         → (o : ℕ) (os : List ℕ) → getD (paged S (classOf n) t L .lists) (classOf n) [] ≡ o ∷ os → Makes (taken (paged S (classOf n) t L) o os)
     ownBlock : largestItem S < n → (t : Spot) → Split (needOf S n) L t
@@ -41,7 +41,7 @@ module _ (S : Shape) (n : ℕ) (L : Layout) where
   item-made : n ≤ largestItem S → (l : List ℕ) → getD (L .lists) (classOf n) [] ≡ l → Makes (anItem S n (classOf n) L l)
   unfolding anItem fromList
   item-made h [] e = page-made h e (fit (pageNeed S (classOf n)) (L .blocks)) refl
-  item-made h (o ∷ os) e = anyItem h o os e
+  item-made h (o ∷ os) e = listedItem h o os e
 
   block-made : largestItem S < n → (x : Option Spot) → fit (needOf S n) (L .blocks) ≡ x → Makes (aBlock S (needOf S n) L x)
   unfolding aBlock
