@@ -1,5 +1,8 @@
 // What a call finds first, before it does anything: whether the buffer can be a heap, holds one and is sound, and whether a size can be asked for.
+use ending::may_end;
+use ending::stored_end;
 use model::ALREADY_OPENED;
+use model::BAD_END;
 use model::BAD_LENGTH;
 use model::BAD_SIZE;
 use model::MAGIC_BYTES;
@@ -7,6 +10,7 @@ use model::NO_ROOM;
 use model::NOT_LIVE;
 use model::NOT_OPENED;
 use model::NOT_SOUND;
+use model::Position;
 use model::longest;
 use model::magic;
 use model::shortest;
@@ -17,12 +21,12 @@ ghost use Prim.Native.Nat.{_≤_};
 ghost use lib.ListN.{length};
 ghost use Rattle.words.specs.Width.{Width};
 ghost use Rattle.model.specs.Shape.{shape, shortest};
-ghost use Rattle.model.specs.Refusals.{alreadyOpened};
+ghost use Rattle.model.specs.Refusals.{badEnd};
 ghost use Rattle.model.specs.Calls.{Lent, Opened, GoodSize};
 ghost use Rattle.telling.specs.Tells.{Tells};
 ghost use Rattle.examining.specs.Examined.{refusalNumber, Examined, ExaminedFor};
 
-// Why a call says no, in the order of document 01's numbers, 1 to 7.
+// Why a call says no, in the order of its numbers in documents 01 and 02, 1 to 8.
 pub enum Refusal {
     BadLength,
     NotOpened,
@@ -31,6 +35,7 @@ pub enum Refusal {
     NotLive,
     NoRoom,
     AlreadyOpened,
+    BadEnd,
 }
 
 // What every call but initialise finds first: a sound heap, or a reason to say no.
@@ -39,9 +44,9 @@ pub enum Verdict {
     Unfit(Refusal),
 }
 
-// Document 01's number of a refusal.
+// The number of a refusal.
 pub fn refusal_number(k: Refusal) -> u64
-    ensures { λ r. ⌜ (r ≡ refusalNumber k) × (r ≤ alreadyOpened) ⌝ }
+    ensures { λ r. ⌜ (r ≡ refusalNumber k) × (r ≤ badEnd) ⌝ }
 {
     match k {
         Refusal::BadLength => BAD_LENGTH,
@@ -51,6 +56,7 @@ pub fn refusal_number(k: Refusal) -> u64
         Refusal::NotLive => NOT_LIVE,
         Refusal::NoRoom => NO_ROOM,
         Refusal::AlreadyOpened => ALREADY_OPENED,
+        Refusal::BadEnd => BAD_END,
     }
 }
 
@@ -65,7 +71,7 @@ pub fn is_lent(w: usize, h: &[u8]) -> bool
     h.len() <= longest(w)
 }
 
-// The length, the first 8 bytes, and soundness, in that order. Who reads much of a heap asks this once, and then reads by the crate `reading`.
+// The length, the first 8 bytes, and soundness up to the end that the heap names, in that order. Who reads much of a heap asks this once, and then reads its part of the buffer by the crate `reading`.
 pub fn examine(w: usize, h: &[u8]) -> Verdict
     requires { ⌜ Width w ⌝ }
     ensures { λ r. ⌜ Examined w (now (h .entry)) r ⌝ }
@@ -76,7 +82,11 @@ pub fn examine(w: usize, h: &[u8]) -> Verdict
     if word(MAGIC_BYTES, h, 0) != magic(w) {
         return Verdict::Unfit(Refusal::NotOpened);
     }
-    if !is_sound(w, h) {
+    let end = stored_end(w, h).0;
+    if !may_end(w, h.len(), Position(end)) {
+        return Verdict::Unfit(Refusal::NotSound);
+    }
+    if !is_sound(w, &h[0..end]) {
         return Verdict::Unfit(Refusal::NotSound);
     }
     Verdict::Fine

@@ -102,7 +102,7 @@ fn in_block(
 }
 
 // The last free block below a, found along the list of the free ones, which is in order of position; 0: none.
-fn last_free(w: usize, h: &[u8], a: Address) -> Position
+pub fn last_free(w: usize, h: &[u8], a: Address) -> Position
     requires { ⌜ Width w × Sound (shape w) (now h) ⌝ }
     ensures { λ r. ⌜ ((L : Layout) → Here (shape w) (now (h .entry)) L → Nearest w (now (h .entry)) L (a .0) (r .0)) ⌝ }
 {

@@ -5,13 +5,15 @@ pub use examining::refusal_number;
 use model::Address;
 use model::HAND;
 use model::MOST_CLASSES;
+use model::end_of;
 pub use serving::Answer;
 pub use serving::counting::Counted;
 pub use serving::recovery::Swept;
 pub use serving::walking::Step;
 pub use serving::walking::Walk;
 ghost use mathlib.Core.Path.{_≡_};
-ghost use Rattle.model.specs.Shape.{hand, start};
+ghost use lib.ListN.{length};
+ghost use Rattle.model.specs.Shape.{hand, start, endOf};
 ghost use Rattle.model.specs.Calls.{Initialises, Checks, Allocates, Frees, ResizesInPlace, Moves, Keeps, Resizes, Sweeps, Steps, Counts};
 ghost use Rattle.examining.specs.Examined.{Examined};
 ghost use Rattle.serving.specs.Answers.{outcome, sweptOutcome};
@@ -19,11 +21,11 @@ ghost use Rattle.serving.specs.Counting.{toldCounted, TableTold};
 ghost use Rattle.serving.specs.Lookup.{Part, RefusalTold};
 ghost use Rattle.serving.specs.Walking.{toldStep};
 
-// Opens a heap in a buffer that holds none yet.
+// Opens a heap in a buffer that holds none yet. It ends with its buffer.
 pub fn initialise(h: &mut [u8]) -> Answer
-    ensures { λ r. ⌜ Initialises hand (now (h .entry)) (outcome r (now (h .exit))) ⌝ }
+    ensures { λ r. ⌜ Initialises hand (now (h .entry)) (endOf (length (now (h .entry)))) (outcome r (now (h .exit))) ⌝ }
 {
-    serving::initialise(HAND, h)
+    serving::initialise(HAND, h, end_of(h.len()))
 }
 
 // The length, the first 8 bytes, and soundness, in that order. Who reads much of a heap asks this once, and then reads by the crate `reading`.

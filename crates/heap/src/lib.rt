@@ -4,6 +4,7 @@ pub use examining::Verdict;
 pub use examining::refusal_number;
 use model::Address;
 use model::MOST_CLASSES;
+use model::Position;
 use model::WIDE;
 pub use serving::Answer;
 pub use serving::counting::Counted;
@@ -19,14 +20,14 @@ ghost use Rattle.serving.specs.Counting.{toldCounted, TableTold};
 ghost use Rattle.serving.specs.Lookup.{Part, RefusalTold};
 ghost use Rattle.serving.specs.Walking.{toldStep};
 
-// Opens a heap in a buffer that holds none yet.
-pub fn initialise(h: &mut [u8]) -> Answer
-    ensures { λ r. ⌜ Initialises wide (now (h .entry)) (outcome r (now (h .exit))) ⌝ }
+// Opens a heap that ends at `end`, in a buffer that holds none yet.
+pub fn initialise(h: &mut [u8], end: Position) -> Answer
+    ensures { λ r. ⌜ Initialises wide (now (h .entry)) (end .0) (outcome r (now (h .exit))) ⌝ }
 {
-    serving::initialise(WIDE, h)
+    serving::initialise(WIDE, h, end)
 }
 
-// The length, the first 8 bytes, and soundness, in that order. Who reads much of a heap asks this once, and then reads by the crate `reading`.
+// The length, the first 8 bytes, and soundness up to the end that the heap names, in that order. Who reads much of a heap asks this once, and then reads its part of the buffer by the crate `reading`.
 pub fn examine(h: &[u8]) -> Verdict
     ensures { λ r. ⌜ Examined (wide .word) (now (h .entry)) r ⌝ }
 {
@@ -54,14 +55,14 @@ pub fn free(h: &mut [u8], a: Address) -> Answer
     serving::free(WIDE, h, a)
 }
 
-// Makes the record at a one of n bytes where it stands, or says 6: then it cannot stay.
+// Makes the record at a one of n bytes where it stands, or says 6: then it cannot stay. The heap does not grow.
 pub fn resize_in_place(h: &mut [u8], a: Address, n: usize) -> Answer
     ensures { λ r. ⌜ ResizesInPlace wide (now (h .entry)) (a .0) n (outcome r (now (h .exit))) ⌝ }
 {
     serving::resize::resize_in_place(WIDE, h, a, n)
 }
 
-// Makes the record at a one of n bytes elsewhere, always, or says 6: then an allocation of n bytes finds nothing.
+// Makes the record at a one of n bytes elsewhere, always, or says 6: then an allocation of n bytes finds nothing, and the heap cannot grow for it.
 pub fn relocate(h: &mut [u8], a: Address, n: usize) -> Answer
     ensures { λ r. ⌜ Moves wide (now (h .entry)) (a .0) n (outcome r (now (h .exit))) ⌝ }
 {

@@ -2,13 +2,14 @@
 ghost use Rattle.model.specs.Shape.{wide};
 ghost use Rattle.model.specs.Calls.{Initialises, Checks, Allocates, Frees, ResizesInPlace, Moves, Resizes, Sweeps};
 ghost use Rattle.numbering.specs.Numbers.{Numbered};
+use model::Position;
 use model::WIDE;
 
 #[no_mangle]
-pub extern "C" fn jagwibodu_initialise(h: &mut [u8]) -> u64
-    ensures { λ r. ⌜ Numbered (Initialises wide (now (h .entry))) r (now (h .exit)) ⌝ }
+pub extern "C" fn jagwibodu_initialise(h: &mut [u8], end: u64) -> u64
+    ensures { λ r. ⌜ Numbered (Initialises wide (now (h .entry)) end) r (now (h .exit)) ⌝ }
 {
-    numbering::initialise(WIDE, h)
+    numbering::initialise(WIDE, h, Position(end as usize))
 }
 
 #[no_mangle]

@@ -1,14 +1,16 @@
 // The calls for the hand unit's C host: numbers and a byte slice in, refusal × 2^32 + address out.
-ghost use Rattle.model.specs.Shape.{hand};
+ghost use lib.ListN.{length};
+ghost use Rattle.model.specs.Shape.{hand, endOf};
 ghost use Rattle.model.specs.Calls.{Initialises, Checks, Allocates, Frees, ResizesInPlace, Moves, Resizes, Sweeps};
 ghost use Rattle.numbering.specs.Numbers.{Numbered};
 use model::HAND;
+use model::end_of;
 
 #[no_mangle]
 pub extern "C" fn jagwibodu_hand_initialise(h: &mut [u8]) -> u64
-    ensures { λ r. ⌜ Numbered (Initialises hand (now (h .entry))) r (now (h .exit)) ⌝ }
+    ensures { λ r. ⌜ Numbered (Initialises hand (now (h .entry)) (endOf (length (now (h .entry))))) r (now (h .exit)) ⌝ }
 {
-    numbering::initialise(HAND, h)
+    numbering::initialise(HAND, h, end_of(h.len()))
 }
 
 #[no_mangle]

@@ -5,6 +5,7 @@ pub mod Valid
 pub mod Remade
 pub mod FreeWalk
 pub mod Middle
+pub mod Grown
 pub mod Releasing
 pub mod Joined
 pub mod Spots

@@ -1,6 +1,7 @@
 pub mod Pictures
 pub mod Drawn
 pub mod Shown
+pub mod Fronts
 pub mod Change
 pub mod Relist
 pub mod Heads

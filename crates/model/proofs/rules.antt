@@ -3,8 +3,10 @@ pub mod Makings
 pub mod Allocation
 pub mod Sized
 pub mod Room
+pub mod Growth
 pub mod Before
 pub mod OnLayouts
+pub mod Ready
 pub mod ResizeWays
 pub mod Closed
 pub mod Twins

@@ -1,24 +1,24 @@
--- What each call answers and leaves, for all bytes: the refusals in document 01's order, then the rule.
+-- What each call answers and leaves, for all bytes of a buffer: the refusals in their order, then the rule.
 use Prim.Native.Nat.{ℕ, _+_, _*_, _^_, _≤_, min}
 use mathlib.Core.Path.{_≡_}
 use mathlib.Core.Bool.{cond, _&&_}
-use mathlib.Core.List.{List, [], _∷_}
+use mathlib.Core.List.{List, [], _∷_, _++_}
 use mathlib.Core.Option.{Option, none, some}
-use lib.ListN.{length}
+use lib.ListN.{length, take, drop}
 use lib.Dec.{eqb, leb}
 use Rattle.words.specs.Word.{wordAt, put}
 use Rattle.words.specs.Copy.{copied}
 use Rattle.model.specs.Picture.{draw}
 use Rattle.model.specs.Shape.{Shape, shortest, endOf}
 use Rattle.model.specs.Parts.{magicBytes}
-use Rattle.model.specs.Layout.{Layout, words}
-use Rattle.model.specs.Sound.{Here, Sound}
-use Rattle.model.specs.Rules.{Made, Found, block, thing, nothing, allocate, find, freed, capacity, shownOf, stays, fresh}
+use Rattle.model.specs.Layout.{Layout, endIn, words}
+use Rattle.model.specs.Sound.{MayEnd, heapOf, HereIn, SoundIn}
+use Rattle.model.specs.Rules.{Made, Found, block, thing, nothing, allocate, growth, find, freed, capacity, shownOf, stays, fresh}
 use Rattle.model.specs.Reading.{Step, ended, step, Statistics, counted, table, lookedUp}
 use Rattle.model.specs.Sweeping.{empties, swept}
-use Rattle.model.specs.Refusals.{badLength, notOpened, notSound, badSize, notLive, noRoom, alreadyOpened}
+use Rattle.model.specs.Refusals.{badLength, notOpened, notSound, badSize, notLive, noRoom, alreadyOpened, badEnd}
 
--- of a call that may change the heap: its refusal (0: granted), its address (of a sweep: the number of pages given back), and the heap's bytes then
+-- of a call that may change the heap: its refusal (0: granted), its address (of a sweep: the number of pages given back), and the buffer's bytes then
 pub record Outcome : Type 0 where
   pub refusal : ℕ
   pub address : ℕ
@@ -33,6 +33,14 @@ granted a b = record { refusal = 0; address = a; heap = b }
 -- the one number that the C host gets
 abbrev pub number : Outcome → ℕ
 number o = o .refusal * 2 ^ 32 + o .address
+
+-- the bytes h in the place of the first of b
+abbrev pub fronted : List ℕ → List ℕ → List ℕ
+fronted h b = h ++ drop (length h) b
+
+-- what came of a rule on a heap's own bytes, in the buffer b: the rest of it stays as it was
+abbrev pub inBuffer : List ℕ → Outcome → Outcome
+inBuffer b r = record { refusal = r .refusal; address = r .address; heap = fronted (r .heap) b }
 
 -- an outcome, or the next one where it says "no room"
 abbrev pub orNext : Outcome → Outcome → Outcome
@@ -61,7 +69,7 @@ module _ (S : Shape) where
   abbrev pub GoodSize : ℕ → Type 0
   GoodSize n = (1 ≤ n) × (n ≤ S .most)
 
-  -- the bytes with a layout's picture drawn over them
+  -- a heap's own bytes with a layout's picture drawn over them
   abbrev pub drawn : Layout → List ℕ → List ℕ
   drawn L b = draw (S .word) (words S (endOf (length b)) L) b
 
@@ -74,8 +82,20 @@ module _ (S : Shape) where
   pub record Checked {A : Type 0} (b : List ℕ) (no : ℕ → A) (rule : Layout → A) (r : A) : Type 0 where
     pub one : (Lent b → ⊥) → r ≡ no badLength
     pub two : Lent b → (Opened b → ⊥) → r ≡ no notOpened
-    pub three : Lent b → Opened b → (Sound S b → ⊥) → r ≡ no notSound
-    pub sound : Lent b → (L : Layout) → Here S b L → r ≡ rule L
+    pub three : Lent b → Opened b → (SoundIn S b → ⊥) → r ≡ no notSound
+    pub sound : Lent b → (L : Layout) → HereIn S b L → r ≡ rule L
+
+  -- a rule run on the heap's own bytes
+  abbrev pub ordinary : List ℕ → (List ℕ → Layout → Outcome) → Layout → Outcome
+  ordinary b rule L = inBuffer b (rule (heapOf S b) L)
+
+  -- a rule that allocates n bytes: where the heap has to grow for them and can, its new free block is written, and then the ordinary rule runs
+  abbrev pub grownTo : List ℕ → (List ℕ → Layout → Outcome) → Layout → Option Layout → Outcome
+  grownTo b rule L none = ordinary b rule L
+  grownTo b rule L (some G) = inBuffer b (rule (drawn G (take (endIn S G) b)) G)
+
+  abbrev pub growing : ℕ → List ℕ → (List ℕ → Layout → Outcome) → Layout → Outcome
+  growing n b rule L = grownTo b rule L (growth S (endOf (length b)) n L)
 
   -- 4 where the size is bad; 5 where nothing is live at the address; 6 where the allocation finds nothing; and else what comes next
   abbrev pub sized : ℕ → List ℕ → Outcome → Outcome
@@ -90,11 +110,12 @@ module _ (S : Shape) where
   made b none heap = refused b noRoom
   made b (some m) heap = granted (m .at) (heap m)
 
-  -- Initialise
-  pub record Initialises (b : List ℕ) (r : Outcome) : Type 0 where
+  -- Initialise, with a starting end e
+  pub record Initialises (b : List ℕ) (e : ℕ) (r : Outcome) : Type 0 where
     pub one : (Lent b → ⊥) → r ≡ refused b badLength
     pub seven : Lent b → Opened b → r ≡ refused b alreadyOpened
-    pub opens : Lent b → (Opened b → ⊥) → r ≡ granted 0 (drawn (fresh S (endOf (length b))) (put magicBytes b 0 (S .magic)))
+    pub eight : Lent b → (Opened b → ⊥) → (MayEnd S (length b) e → ⊥) → r ≡ refused b badEnd
+    pub opens : Lent b → (Opened b → ⊥) → MayEnd S (length b) e → r ≡ inBuffer b (granted 0 (drawn (fresh S e) (put magicBytes (take e b) 0 (S .magic))))
 
   -- Check
   abbrev pub Checks : List ℕ → Outcome → Type 0
@@ -105,16 +126,19 @@ module _ (S : Shape) where
   allocated b n L = made b (allocate S n L) (λ m. drawn (m .layout) b)
 
   abbrev pub Allocates : List ℕ → ℕ → Outcome → Type 0
-  Allocates b n r = Checked b (refused b) (λ L. sized n b (allocated b n L)) r
+  Allocates b n r = Checked b (refused b) (λ L. sized n b (growing n b (λ h. allocated h n) L)) r
 
   -- Free
   abbrev pub without : ℕ → Layout → Layout
   without a L = freed S (find S a L) L
 
-  abbrev pub Frees : List ℕ → ℕ → Outcome → Type 0
-  Frees b a r = Checked b (refused b) (λ L. found (find S a L) (refused b notLive) (granted 0 (drawn (without a L) b))) r
+  abbrev pub freedAt : ℕ → List ℕ → Layout → Outcome
+  freedAt a b L = granted 0 (drawn (without a L) b)
 
-  -- Resize has three ways, and each says 6 where it is not open. In place:
+  abbrev pub Frees : List ℕ → ℕ → Outcome → Type 0
+  Frees b a r = Checked b (refused b) (λ L. found (find S a L) (refused b notLive) (ordinary b (freedAt a) L)) r
+
+  -- Resize has three ways, and each says 6 where it is not open. In place, where the heap never grows:
   abbrev pub placed : List ℕ → ℕ → Option Layout → Outcome
   placed b a none = refused b noRoom
   placed b a (some M) = granted a (drawn M b)
@@ -133,19 +157,20 @@ module _ (S : Shape) where
   abbrev pub kept : List ℕ → ℕ → ℕ → Layout → Outcome
   kept b a n L = cond (leb n (capacity S (find S a L))) (granted a b) (refused b noRoom)
 
+  -- in a buffer
+  abbrev pub oneWay : Way → List ℕ → ℕ → ℕ → Layout → Outcome
+  oneWay staying b a n L = ordinary b (λ h. stayed h a n) L
+  oneWay moving b a n L = growing n b (λ h. moved h a n) L
+  oneWay keeping b a n L = kept b a n L
+
   -- THE RULE OF RESIZE, cited by its name: the first of the three that is open
   unfoldable pub resized : List ℕ → ℕ → ℕ → Layout → Outcome
-  resized b a n L = found (find S a L) (refused b notLive) (orNext (stayed b a n L) (orNext (moved b a n L) (kept b a n L)))
+  resized b a n L = found (find S a L) (refused b notLive) (orNext (oneWay staying b a n L) (orNext (oneWay moving b a n L) (oneWay keeping b a n L)))
 
   abbrev pub Resizes : List ℕ → ℕ → ℕ → Outcome → Type 0
   Resizes b a n r = Checked b (refused b) (λ L. sized n b (resized b a n L)) r
 
   -- Each way is a call by itself, too: 4 where the size is bad, 5 where nothing is live at the address, and else what the way gives
-  abbrev pub oneWay : Way → List ℕ → ℕ → ℕ → Layout → Outcome
-  oneWay staying b a n L = stayed b a n L
-  oneWay moving b a n L = moved b a n L
-  oneWay keeping b a n L = kept b a n L
-
   unfoldable pub resizedBy : Way → List ℕ → ℕ → ℕ → Layout → Outcome
   resizedBy v b a n L = found (find S a L) (refused b notLive) (oneWay v b a n L)
 
@@ -165,8 +190,11 @@ module _ (S : Shape) where
   Keeps b a n r = ResizesBy keeping b a n r
 
   -- Sweep: it answers the number of pages given back
+  abbrev pub sweptAll : List ℕ → Layout → Outcome
+  sweptAll b L = granted (empties (L .blocks)) (drawnInTurn (swept S L) b)
+
   abbrev pub Sweeps : List ℕ → Outcome → Type 0
-  Sweeps b r = Checked b (refused b) (λ L. granted (empties (L .blocks)) (drawnInTurn (swept S L) b)) r
+  Sweeps b r = Checked b (refused b) (ordinary b sweptAll) r
 
   -- Look-up
   abbrev pub LooksUp : List ℕ → ℕ → Told (List ℕ) → Type 0

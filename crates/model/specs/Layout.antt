@@ -1,6 +1,6 @@
 -- A heap's layout: which blocks it has, in rising order, which items of its pages are in use, and in which order each class's free items are listed.
 -- `words` is the picture of a layout: every word that a heap of that layout must hold, in rising order. All other bytes may be anything.
-use Prim.Native.Nat.{ℕ, _+_, _-_, _*_}
+use Prim.Native.Nat.{ℕ, _+_, _*_}
 use mathlib.Core.Bool.{cond}
 use mathlib.Core.List.{List, [], _∷_, _++_}
 use lib.ListN.{length, getD}
@@ -59,6 +59,10 @@ module _ (S : Shape) where
   unfoldable pub ends : ℕ → List Block → ℕ
   ends p [] = p
   ends p (b ∷ bs) = ends (p + sizeOf b) bs
+
+  -- where a layout's blocks end
+  abbrev pub endIn : Layout → ℕ
+  endIn L = ends (start S) (L .blocks)
 
   -- the position of the first free block among blocks that begin at p, or else what is given
   unfoldable pub firstFree : ℕ → List Block → ℕ → ℕ

@@ -6,19 +6,19 @@ use mathlib.Core.List.{List, [], _∷_}
 use mathlib.Core.Option.{none}
 use lib.ListN.{length, getD, take}
 use Rattle.model.specs.Picture.{Word}
-use Rattle.model.specs.Shape.{Shape, allOffered, start, largestItem, classOf, needOf, pageNeed, addressOf, itemAt}
-use Rattle.model.specs.Layout.{free, Layout, words}
-use Rattle.model.specs.Sound.{Sound, Valid, Here}
-use Rattle.model.specs.Rules.{Found, block, thing, nothing, find, stays}
+use Rattle.model.specs.Shape.{Shape, allOffered, start, endOf, largestItem, classOf, needOf, pageNeed, addressOf, itemAt}
+use Rattle.model.specs.Layout.{free, Layout, endIn, words}
+use Rattle.model.specs.Sound.{Valid, storedEnd, HereIn, SoundIn}
+use Rattle.model.specs.Rules.{Found, block, thing, nothing, longer, find, stays}
 use Rattle.model.specs.Live.{_∈_, InTurn, Payload, content, live}
 use Rattle.model.specs.Reading.{Step, Statistics, counted, lookedUp}
 use Rattle.model.specs.Sweeping.{empties}
-use Rattle.model.specs.Refusals.{badLength, notOpened, notSound, badSize, notLive, noRoom, alreadyOpened}
+use Rattle.model.specs.Refusals.{badLength, notOpened, notSound, badSize, notLive, noRoom, alreadyOpened, badEnd}
 use Rattle.model.specs.Calls.{Way, staying, moving, keeping, Outcome, Told, refused, granted, orNext, Lent, Initialises, Checks, Allocates, Frees, Resizes, ResizesBy, ResizesInPlace, Moves, Keeps, Sweeps, LooksUp, Steps, Counts, Tabulates}
 
 -- a call that may change the heap, by its sizes and addresses
 pub data Call : Type 0 where
-  initialising : Call
+  initialising : ℕ → Call
   checking : Call
   allocating : ℕ → Call
   freeing : ℕ → Call
@@ -26,9 +26,21 @@ pub data Call : Type 0 where
   resizingBy : Way → ℕ → ℕ → Call
   sweeping : Call
 
+-- a call that can move the heap's end
+abbrev pub MayGrow : Call → Type 0
+MayGrow (initialising e) = ⊥
+MayGrow checking = ⊥
+MayGrow (allocating n) = Unit {0}
+MayGrow (freeing a) = ⊥
+MayGrow (resizing a n) = Unit {0}
+MayGrow (resizingBy staying a n) = ⊥
+MayGrow (resizingBy moving a n) = Unit {0}
+MayGrow (resizingBy keeping a n) = ⊥
+MayGrow sweeping = ⊥
+
 -- the numbers that a call can answer at all; those that a call that only reads can, and a look-up
 unfoldable pub numbersOf : Call → List ℕ
-numbersOf initialising = 0 ∷ badLength ∷ alreadyOpened ∷ []
+numbersOf (initialising e) = 0 ∷ badLength ∷ alreadyOpened ∷ badEnd ∷ []
 numbersOf checking = 0 ∷ badLength ∷ notOpened ∷ notSound ∷ []
 numbersOf (allocating n) = 0 ∷ badLength ∷ notOpened ∷ notSound ∷ badSize ∷ noRoom ∷ []
 numbersOf (freeing a) = 0 ∷ badLength ∷ notOpened ∷ notSound ∷ notLive ∷ []
@@ -60,7 +72,7 @@ IsItem nothing = ⊥
 module _ (S : Shape) where
   -- what may come of a call on bytes b
   unfoldable pub Comes : List ℕ → Call → Outcome → Type 0
-  Comes b initialising r = Initialises S b r
+  Comes b (initialising e) r = Initialises S b e r
   Comes b checking r = Checks S b r
   Comes b (allocating n) r = Allocates S b n r
   Comes b (freeing a) r = Frees S b a r
@@ -98,24 +110,34 @@ module _ (S : Shape) where
 
   -- Demand 2: the check accepts exactly the sound heaps, and a heap has one layout at most
   abbrev pub AcceptsExactly : Type 0
-  AcceptsExactly = (b : List ℕ) (r : Outcome) → Checks S b r → (r .refusal ≡ 0) ↔ (Lent S b × Sound S b)
+  AcceptsExactly = (b : List ℕ) (r : Outcome) → Checks S b r → (r .refusal ≡ 0) ↔ (Lent S b × SoundIn S b)
 
   abbrev pub OneLayout : Type 0
-  OneLayout = (b : List ℕ) (L L′ : Layout) → Here S b L → Here S b L′ → L ≡ L′
+  OneLayout = (b : List ℕ) (L L′ : Layout) → HereIn S b L → HereIn S b L′ → L ≡ L′
 
   -- a heap that was sound by the rule before is sound; it has the same layout, and the same is live
   abbrev pub SoundBefore : Type 0
-  SoundBefore = (b : List ℕ) → Sound (allOffered S) b → Sound S b
+  SoundBefore = (b : List ℕ) → SoundIn (allOffered S) b → SoundIn S b
 
   abbrev pub LayoutBefore : Type 0
-  LayoutBefore = (b : List ℕ) (L : Layout) → Here (allOffered S) b L → Here S b L × (live (allOffered S) L ≡ live S L)
+  LayoutBefore = (b : List ℕ) (L : Layout) → HereIn (allOffered S) b L → HereIn S b L × (live (allOffered S) L ≡ live S L)
 
   -- no call makes a sound heap unsound, and a heap that is opened is sound
   abbrev pub StaysSound : Type 0
-  StaysSound = (b : List ℕ) (q : Call) (r : Outcome) → Comes b q r → Sound S b → Sound S (r .heap)
+  StaysSound = (b : List ℕ) (q : Call) (r : Outcome) → Comes b q r → SoundIn S b → SoundIn S (r .heap)
 
   abbrev pub OpensSound : Type 0
-  OpensSound = (b : List ℕ) (r : Outcome) → Initialises S b r → r .refusal ≡ 0 → Sound S (r .heap)
+  OpensSound = (b : List ℕ) (e : ℕ) (r : Outcome) → Initialises S b e r → r .refusal ≡ 0 → SoundIn S (r .heap) × (storedEnd S (r .heap) ≡ e)
+
+  -- the end never falls; only an allocation, a move and a resize can move it; and no byte behind the end then is touched
+  abbrev pub EndRises : Type 0
+  EndRises = (b : List ℕ) (q : Call) (r : Outcome) → Comes b q r → SoundIn S b → storedEnd S b ≤ storedEnd S (r .heap)
+
+  abbrev pub EndStays : Type 0
+  EndStays = (b : List ℕ) (q : Call) (r : Outcome) → Comes b q r → SoundIn S b → (MayGrow q → ⊥) → storedEnd S (r .heap) ≡ storedEnd S b
+
+  abbrev pub BehindUntouched : Type 0
+  BehindUntouched = (b : List ℕ) (q : Call) (r : Outcome) → Comes b q r → (i : ℕ) → storedEnd S (r .heap) ≤ i → getD (r .heap) i 0 ≡ getD b i 0
 
   -- live payloads never overlap, lie in the data area, and hold no word of the picture
   abbrev pub NoOverlap : Type 0
@@ -147,10 +169,10 @@ module _ (S : Shape) where
   -- a granted call of a heap with layout L, that then has layout L′
   pub record Grants (b : List ℕ) (q : Call) (r : Outcome) (L L′ : Layout) : Type 0 where
     pub lent : Lent S b
-    pub here : Here S b L
+    pub here : HereIn S b L
     pub comes : Comes b q r
     pub granted : r .refusal ≡ 0
-    pub then : Here S (r .heap) L′
+    pub then : HereIn S (r .heap) L′
 
   -- allocate alters no payload, grants what was not live and holds n bytes, and makes nothing else live
   abbrev pub AllocateKept : List ℕ → ℕ → Layout → Outcome → Layout → Type 0
@@ -244,46 +266,49 @@ module _ (S : Shape) where
   abbrev pub SweepCounts : Type 0
   SweepCounts = (b : List ℕ) (r : Outcome) (L L′ : Layout) → Grants b sweeping r L L′ → SweepCounted L r L′
 
-  -- "no room" exactly when there is no item and no block that fits
+  -- "no room" exactly when there is no item and no block that fits, and with one at its end the heap would pass E, the furthest end in its buffer
   abbrev pub NoBlock : ℕ → Layout → Type 0
   NoBlock need L = (t : ℕ) → free t ∈ L .blocks → t < need
 
-  abbrev pub NoRoom : ℕ → Layout → Type 0
-  NoRoom n L =
+  abbrev pub NothingFits : ℕ → Layout → Type 0
+  NothingFits n L =
       (n ≤ largestItem S → (getD (L .lists) (classOf n) [] ≡ []) × NoBlock (pageNeed S (classOf n)) L)
       × (largestItem S < n → NoBlock (needOf S n) L)
 
-  -- one way of resize says 6 exactly when the record x cannot stay, or the allocation finds nothing, or x does not hold n bytes as it is; resize, when all three
-  abbrev pub NotOpen : Way → Payload → ℕ → Layout → Type 0
-  NotOpen staying x n L = stays S n (find S (x .address) L) L ≡ none
-  NotOpen moving x n L = NoRoom n L
-  NotOpen keeping x n L = x .size < n
+  abbrev pub NoRoom : ℕ → ℕ → Layout → Type 0
+  NoRoom E n L = NothingFits n L × (E < endIn S (longer S n L))
 
-  abbrev pub NoRoomFor : Payload → ℕ → Layout → Type 0
-  NoRoomFor x n L = NotOpen staying x n L × NotOpen moving x n L × NotOpen keeping x n L
+  -- one way of resize says 6 exactly when the record x cannot stay, or the allocation finds nothing, or x does not hold n bytes as it is; resize, when all three
+  abbrev pub NotOpen : Way → ℕ → Payload → ℕ → Layout → Type 0
+  NotOpen staying E x n L = stays S n (find S (x .address) L) L ≡ none
+  NotOpen moving E x n L = NoRoom E n L
+  NotOpen keeping E x n L = x .size < n
+
+  abbrev pub NoRoomFor : ℕ → Payload → ℕ → Layout → Type 0
+  NoRoomFor E x n L = NotOpen staying E x n L × NotOpen moving E x n L × NotOpen keeping E x n L
 
   abbrev pub NoRoomExactly : Type 0
   NoRoomExactly =
-      (b : List ℕ) (n : ℕ) (r : Outcome) (L : Layout) → Lent S b → Here S b L → 1 ≤ n → n ≤ S .most
-      → (Allocates S b n r → (r .refusal ≡ noRoom) ↔ NoRoom n L)
-      × ((x : Payload) → x ∈ live S L → Resizes S b (x .address) n r → (r .refusal ≡ noRoom) ↔ NoRoomFor x n L)
-      × ((v : Way) (x : Payload) → x ∈ live S L → ResizesBy S v b (x .address) n r → (r .refusal ≡ noRoom) ↔ NotOpen v x n L)
+      (b : List ℕ) (n : ℕ) (r : Outcome) (L : Layout) → Lent S b → HereIn S b L → 1 ≤ n → n ≤ S .most
+      → (Allocates S b n r → (r .refusal ≡ noRoom) ↔ NoRoom (endOf (length b)) n L)
+      × ((x : Payload) → x ∈ live S L → Resizes S b (x .address) n r → (r .refusal ≡ noRoom) ↔ NoRoomFor (endOf (length b)) x n L)
+      × ((v : Way) (x : Payload) → x ∈ live S L → ResizesBy S v b (x .address) n r → (r .refusal ≡ noRoom) ↔ NotOpen v (endOf (length b)) x n L)
 
   -- a size that the record x holds already is never refused: where x can neither stay nor move it is kept, and no byte changes
   abbrev pub SmallerKept : Type 0
   SmallerKept =
-      (b : List ℕ) (n : ℕ) (r : Outcome) (L : Layout) → Lent S b → Here S b L → (x : Payload) → x ∈ live S L → 1 ≤ n → n ≤ x .size
-      → Resizes S b (x .address) n r → (r .refusal ≡ 0) × (stays S n (find S (x .address) L) L ≡ none → NoRoom n L → r ≡ granted (x .address) b)
+      (b : List ℕ) (n : ℕ) (r : Outcome) (L : Layout) → Lent S b → HereIn S b L → (x : Payload) → x ∈ live S L → 1 ≤ n → n ≤ x .size
+      → Resizes S b (x .address) n r → (r .refusal ≡ 0) × (stays S n (find S (x .address) L) L ≡ none → NoRoom (endOf (length b)) n L → r ≡ granted (x .address) b)
 
-  -- Demand 3: bytes that differ from a heap's at most inside its live payloads
+  -- Demand 3: bytes that differ from a heap's at most inside its live payloads, and behind its end
   abbrev pub Written : List ℕ → List ℕ → Type 0
   Written b b′ =
       (length b′ ≡ length b)
-      × ((L : Layout) → Here S b L → (i : ℕ) → ((x : Payload) → x ∈ live S L → x .address ≤ i → i < x .address + x .size → ⊥) → getD b′ i 0 ≡ getD b i 0)
+      × ((L : Layout) → HereIn S b L → (i : ℕ) → i < storedEnd S b → ((x : Payload) → x ∈ live S L → x .address ≤ i → i < x .address + x .size → ⊥) → getD b′ i 0 ≡ getD b i 0)
 
   -- an allocation, a free or a sweep
   abbrev pub Plain : Call → Type 0
-  Plain initialising = ⊥
+  Plain (initialising e) = ⊥
   Plain checking = ⊥
   Plain (allocating n) = Unit {0}
   Plain (freeing a) = Unit {0}
@@ -297,12 +322,19 @@ module _ (S : Shape) where
     call : {b : List ℕ} (b′ : List ℕ) {q : Call} {qs : List Call} {r : Outcome} {rs : List Reply}
         → Written b b′ → Plain q → Comes b′ q r → Run (r .heap) qs rs → Run b (q ∷ qs) (record { refusal = r .refusal; address = r .address } ∷ rs)
 
-  -- two fresh heaps, one longer: the same run gives the same answers, as long as the shorter one never says "no room"
-  abbrev pub LongerAgrees : Type 0
-  LongerAgrees =
-      (b d : List ℕ) (r t : Outcome) → Initialises S b r → r .refusal ≡ 0 → Initialises S d t → t .refusal ≡ 0 → length b ≤ length d
+  -- two fresh heaps, one in a longer buffer: the same run gives the same answers, as long as the one in the shorter never says "no room"
+  abbrev pub AgreeFrom : List ℕ → ℕ → List ℕ → ℕ → Type 0
+  AgreeFrom b e d f =
+      (r t : Outcome) → Initialises S b e r → r .refusal ≡ 0 → Initialises S d f t → t .refusal ≡ 0 → length b ≤ length d
       → (qs : List Call) (rs ts : List Reply) → Run (r .heap) qs rs → Run (t .heap) qs ts
       → ((a : ℕ) → record { refusal = noRoom; address = a } ∈ rs → ⊥) → rs ≡ ts
+
+  -- both started at their furthest ends; and both with the same starting end
+  abbrev pub LongerAgrees : Type 0
+  LongerAgrees = (b d : List ℕ) → AgreeFrom b (endOf (length b)) d (endOf (length d))
+
+  abbrev pub SameStartAgrees : Type 0
+  SameStartAgrees = (b d : List ℕ) (e : ℕ) → AgreeFrom b e d e
 
   -- THE PROMISES: every demand of document 01, as 02's requests change and add to them, of heaps of this shape
   pub record Promised : Type 0 where
@@ -317,6 +349,9 @@ module _ (S : Shape) where
     pub layout-before : LayoutBefore
     pub stays-sound : StaysSound
     pub opens-sound : OpensSound
+    pub end-rises : EndRises
+    pub end-stays : EndStays
+    pub behind-untouched : BehindUntouched
     pub no-overlap : NoOverlap
     pub in-area : InArea
     pub no-word-inside : NoWordInside
@@ -338,3 +373,4 @@ module _ (S : Shape) where
     pub no-room-exactly : NoRoomExactly
     pub smaller-kept : SmallerKept
     pub longer-agrees : LongerAgrees
+    pub same-start-agrees : SameStartAgrees

@@ -1,4 +1,4 @@
--- What a call may say no with, by document 01's numbers; 0 means granted.
+-- What a call may say no with, by the numbers of documents 01 and 02; 0 means granted.
 use Prim.Native.Nat.{ℕ}
 
 -- N below the least or above the greatest length
@@ -27,3 +27,7 @@ noRoom = 6
 -- initialise, and the first 8 bytes are already there
 abbrev pub alreadyOpened : ℕ
 alreadyOpened = 7
+
+-- initialise, and a heap may not end there
+abbrev pub badEnd : ℕ
+badEnd = 8

@@ -7,7 +7,7 @@ use lib.ListN.{getD, set, replicate}
 use lib.Dec.{eqb, leb}
 use Rattle.model.specs.Shape.{Shape, start, leastFree, largestItem, itemSize, itemCapacity, itemShown, blockCapacity, classOf, needOf, pageNeed, addressOf, offsetOf, itemAt}
 use Rattle.model.specs.Parts.{firstItemAt}
-use Rattle.model.specs.Layout.{Slot, idle, held, Use, variable, page, Block, free, used, Layout, useSize, ends}
+use Rattle.model.specs.Layout.{Slot, idle, held, Use, variable, page, Block, free, used, Layout, useSize, ends, endIn}
 use Rattle.model.specs.Sound.{idleSlots}
 
 -- a block among others: the blocks before it, its size, and the blocks after it
@@ -63,6 +63,13 @@ orElse nothing g = g
 pub record Made : Type 0 where
   pub at : ℕ
   pub layout : Layout
+
+-- blocks with a free one of exactly need at their end: a last one that is free enlarged, or else one added
+unfoldable pub extended : ℕ → List Block → List Block
+extended need [] = free need ∷ []
+extended need (free s ∷ []) = free need ∷ []
+extended need (free s ∷ b ∷ bs) = free s ∷ extended need (b ∷ bs)
+extended need (used u ∷ bs) = used u ∷ extended need bs
 
 module _ (S : Shape) where
   -- Block of payload size p, with need = p + tags: `make` makes it from its size. The low end is used and the rest stays free, or the whole where the rest is too small
@@ -134,6 +141,22 @@ module _ (S : Shape) where
       let small = anItem n (classOf n) L (getD (L .lists) (classOf n) []) in
       let large = aBlock (needOf S n) L (fit (needOf S n) (L .blocks)) in
       cond (leb n (largestItem S)) small large
+
+  -- the block that n bytes want where no free item will do: a page, or one of their own
+  abbrev pub wanted : ℕ → ℕ
+  wanted n = cond (leb n (largestItem S)) (pageNeed S (classOf n)) (needOf S n)
+
+  -- the layout that a heap grows to for n bytes
+  abbrev pub longer : ℕ → Layout → Layout
+  longer n L = record { blocks = extended (wanted n) (L .blocks); lists = L .lists }
+
+  abbrev pub unlessFound : Option Made → Option Layout → Option Layout
+  unlessFound (some m) grown = none
+  unlessFound none grown = grown
+
+  -- Grow for n bytes, in a buffer whose furthest end is E: where the allocation finds nothing, and unless the new end would pass E
+  unfoldable pub growth : ℕ → ℕ → Layout → Option Layout
+  growth E n L = unlessFound (allocate n L) (cond (leb (endIn S (longer n L)) E) (some (longer n L)) none)
 
   -- what is live at address a
   unfoldable pub inSlots : ℕ → ℕ → ℕ → List Slot → Found

@@ -1,6 +1,6 @@
 -- The numbers in which one console's heap differs from another's, and what follows from them. All else is the same for every shape.
 use Prim.Native.Nat.{ℕ, _+_, _-_, _*_, _/_}
-use mathlib.Core.Bool.{cond}
+use mathlib.Core.Bool.{Bool, cond}
 use lib.Dec.{eqb}
 
 pub record Shape : Type 0 where
@@ -15,8 +15,10 @@ pub record Shape : Type 0 where
   pub most : ℕ
   -- the magic number, as its eight bytes make one word
   pub magic : ℕ
+  -- whether a heap may end before its buffer does, and grow
+  pub grows : Bool
 
--- the heap with words of w bytes: document 01's at 8, its upper classes closed, and the hand unit's at 4
+-- the heap with words of w bytes: document 01's at 8, its upper classes closed, which may grow, and the hand unit's at 4, which ends with its buffer
 abbrev pub shape : ℕ → Shape
 shape w =
     record {
@@ -26,6 +28,7 @@ shape w =
       perPage = λ c. cond (eqb w 8) (4096 / (8 * c + 16) + 1) 2;
       most = cond (eqb w 8) 1048576 65536;
       magic = cond (eqb w 8) 0x01636f6c6c617978 0x02636f6c6c617978;
+      grows = eqb w 8;
     }
 
 -- document 01's heap, and the hand unit's
@@ -37,9 +40,9 @@ hand = shape 4
 
 -- the same heap with every class handed out: the rule before any was closed
 abbrev pub allOffered : Shape → Shape
-allOffered S = record { word = S .word; classes = S .classes; offered = S .classes; perPage = S .perPage; most = S .most; magic = S .magic }
+allOffered S = record { word = S .word; classes = S .classes; offered = S .classes; perPage = S .perPage; most = S .most; magic = S .magic; grows = S .grows }
 
--- the end of a heap of n bytes: n rounded down to a multiple of 8; and n rounded up to one
+-- the furthest end of a heap in a buffer of n bytes: n rounded down to a multiple of 8; and n rounded up to one
 abbrev pub endOf : ℕ → ℕ
 endOf n = n / 8 * 8
 
@@ -70,6 +73,10 @@ module _ (S : Shape) where
   -- the shortest heap: room for one free block
   abbrev pub shortest : ℕ
   shortest = start + leastFree
+
+  -- the least end of a heap, in a buffer whose furthest is E
+  abbrev pub leastEnd : ℕ → ℕ
+  leastEnd E = cond (S .grows) shortest E
 
   -- the largest payload of an item that is handed out: a size above it has a block of its own
   abbrev pub largestItem : ℕ

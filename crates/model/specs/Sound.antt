@@ -1,15 +1,15 @@
--- What a sound heap is.
+-- What a sound heap is, and a buffer with one.
 use Prim.Native.Nat.{ℕ, _+_, _%_, _≤_, _<_}
 use mathlib.Core.Bool.{cond}
 use mathlib.Core.Path.{_≡_}
 use mathlib.Core.Logic.{_⊎_}
 use mathlib.Core.List.{List, [], _∷_, _++_}
-use lib.ListN.{length, getD}
+use lib.ListN.{length, getD, take}
 use lib.Dec.{eqb}
 use Rattle.words.specs.Word.{wordAt}
 use Rattle.model.specs.Picture.{Shows}
-use Rattle.model.specs.Shape.{Shape, start, leastFree, leastVariable, classOf, itemSize, offsetOf, endOf}
-use Rattle.model.specs.Parts.{magicBytes, firstItemAt}
+use Rattle.model.specs.Shape.{Shape, start, leastFree, leastEnd, leastVariable, classOf, itemSize, offsetOf, endOf}
+use Rattle.model.specs.Parts.{magicBytes, endAt, firstItemAt}
 use Rattle.model.specs.Layout.{Slot, idle, held, Use, variable, page, Block, free, used, Layout, ifFree, sizeOf, ends, words}
 
 -- how often o stands in a list
@@ -80,3 +80,23 @@ module _ (S : Shape) where
   pub record Sound (b : List ℕ) : Type 0 where
     pub layout : Layout
     pub here : Here b layout
+
+  -- an end that a heap in a buffer of n bytes may have
+  abbrev pub MayEnd : ℕ → ℕ → Type 0
+  MayEnd n e = (leastEnd S (endOf n) ≤ e) × (e ≤ endOf n) × (e % 8 ≡ 0)
+
+  -- the heap in a buffer: its bytes up to the end that it names
+  abbrev pub storedEnd : List ℕ → ℕ
+  storedEnd b = wordAt (S .word) b (endAt S)
+
+  abbrev pub heapOf : List ℕ → List ℕ
+  heapOf b = take (storedEnd b) b
+
+  -- a heap with layout L stands in a buffer; and a sound heap does
+  pub record HereIn (b : List ℕ) (L : Layout) : Type 0 where
+    pub ended : MayEnd (length b) (storedEnd b)
+    pub here : Here (heapOf b) L
+
+  pub record SoundIn (b : List ℕ) : Type 0 where
+    pub layout : Layout
+    pub here : HereIn b layout

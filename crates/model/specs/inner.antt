@@ -4,3 +4,5 @@ pub mod Headers
 pub mod Laid
 pub mod Items
 pub mod Pages
+pub mod Ways
+pub mod Edges

@@ -60,7 +60,7 @@ pub fn item_at(w: usize, o: ItemOffset) -> Position
     Position(index(w).0 + o.0)
 }
 
-// What a call may say no with, by document 01's numbers.
+// What a call may say no with, by the numbers of documents 01 and 02.
 pub const BAD_LENGTH: u64 = 1;
 
 pub const NOT_OPENED: u64 = 2;
@@ -74,6 +74,8 @@ pub const NOT_LIVE: u64 = 5;
 pub const NO_ROOM: u64 = 6;
 
 pub const ALREADY_OPENED: u64 = 7;
+
+pub const BAD_END: u64 = 8;
 
 // The bytes of a word of document 01's heap, and of the hand unit's: what every function takes as w.
 pub const WIDE: usize = 8;
@@ -125,7 +127,13 @@ pub fn paged_bytes(w: usize, n: usize) -> usize
     if w == WIDE { n * 4096 } else { n * 32 }
 }
 
-// The end of a heap of n bytes.
+// Whether a heap may end before its buffer does, and grow; the furthest end in a buffer of n bytes.
+pub fn grows(w: usize) -> bool
+    ensures { λ r. ⌜ r ≡ shape w .grows ⌝ }
+{
+    w == WIDE
+}
+
 pub fn end_of(n: usize) -> Position
     ensures { λ r. ⌜ r .0 ≡ endOf n ⌝ }
 {

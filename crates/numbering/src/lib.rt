@@ -3,6 +3,7 @@
 use examining::Refusal;
 use examining::refusal_number;
 use model::Address;
+use model::Position;
 use serving::Answer;
 use serving::recovery::Swept;
 use serving::recovery::sweep as swept;
@@ -44,11 +45,11 @@ fn pages(r: Swept) -> u64
     }
 }
 
-pub fn initialise(w: usize, h: &mut [u8]) -> u64
+pub fn initialise(w: usize, h: &mut [u8], end: Position) -> u64
     requires { ⌜ Width w ⌝ }
-    ensures { λ r. ⌜ Numbered (Initialises (shape w) (now (h .entry))) r (now (h .exit)) ⌝ }
+    ensures { λ r. ⌜ Numbered (Initialises (shape w) (now (h .entry)) (end .0)) r (now (h .exit)) ⌝ }
 {
-    number(serving::initialise(w, h))
+    number(serving::initialise(w, h, end))
 }
 
 pub fn check(w: usize, h: &[u8]) -> u64

@@ -1,5 +1,5 @@
 -- Demands 1 and 2 of what the calls answer: those of outcomes, through what an answer means.
-use Prim.Native.Nat.{ℕ, zero, suc, _+_, _-_}
+use Prim.Native.Nat.{ℕ, zero, suc, _+_, _-_, _≤_}
 use mathlib.Core.Path.{_≡_, refl, sym, ap, subst, _∙_}
 use mathlib.Core.Logic.{_↔_, Iff·trans}
 use mathlib.Core.List.{List, [], _∷_, _++_}
@@ -8,13 +8,13 @@ use lib.ListN.{length, getD, replicate}
 use Rattle.words.specs.Width.{Width}
 use Rattle.model.specs.Shape.{shape, endOf}
 use Rattle.model.specs.Layout.{Layout}
-use Rattle.model.specs.Sound.{AllAllowed, Valid, Here, Sound}
+use Rattle.model.specs.Sound.{AllAllowed, Valid, storedEnd, heapOf, HereIn, SoundIn}
 use Rattle.model.specs.Rules.{Found, block, thing, nothing, find}
 use Rattle.model.specs.Reading.{counted, table, total, row, rowsFrom}
 use Rattle.model.specs.Reading as reading
 use Rattle.model.specs.Walking.{column}
 use Rattle.model.specs.Refusals.{notLive}
-use Rattle.model.specs.Calls.{Outcome, Told, refused, granted, drawn, without, found, Counts}
+use Rattle.model.specs.Calls.{Outcome, Told, refused, granted, ordinary, freedAt, found, Counts}
 use Rattle.model.specs.Promises.{Comes}
 use Rattle.model.specs.declared.Address.{Address}
 use Rattle.model.proofs.lives.LiveFound.{isThere}
@@ -73,11 +73,11 @@ column-more k n (r ∷ t) = ap (λ (x : ℕ). getD r k 0 + x) (column-more k n t
 
 module _ {w : ℕ} (wd : Width w) where
   -- free answers 5 exactly where nothing is found
-  free-answers : (b : List ℕ) (a : ℕ) (o : Outcome) (L : Layout) → o ≡ found (shape w) (find (shape w) a L) (refused b notLive) (granted 0 (drawn (shape w) (without (shape w) a L) b)) → (o .refusal ≡ notLive) ↔ (find (shape w) a L ≡ nothing)
+  free-answers : (b : List ℕ) (a : ℕ) (o : Outcome) (L : Layout) → o ≡ found (shape w) (find (shape w) a L) (refused b notLive) (ordinary (shape w) b (freedAt (shape w) a) L) → (o .refusal ≡ notLive) ↔ (find (shape w) a L ≡ nothing)
   free-answers b a o L e = go (find (shape w) a L) refl
     where
-      said : (f : Found) → find (shape w) a L ≡ f → o .refusal ≡ found (shape w) f (refused b notLive) (granted 0 (drawn (shape w) (without (shape w) a L) b)) .refusal
-      said f k = ap (λ (x : Outcome). x .refusal) e ∙ ap (λ (y : Found). found (shape w) y (refused b notLive) (granted 0 (drawn (shape w) (without (shape w) a L) b)) .refusal) k
+      said : (f : Found) → find (shape w) a L ≡ f → o .refusal ≡ found (shape w) f (refused b notLive) (ordinary (shape w) b (freedAt (shape w) a) L) .refusal
+      said f k = ap (λ (x : Outcome). x .refusal) e ∙ ap (λ (y : Found). found (shape w) y (refused b notLive) (ordinary (shape w) b (freedAt (shape w) a) L) .refusal) k
 
       go : (f : Found) → find (shape w) a L ≡ f → (o .refusal ≡ notLive) ↔ (find (shape w) a L ≡ nothing)
       go nothing k = ((λ x. k), (λ x. said nothing k))
@@ -104,8 +104,8 @@ module _ {w : ℕ} (wd : Width w) where
       none : {k : ℕ} → toldCounted r ≡ record { refusal = k; answer = counted [] } → t ≡ rowsOf w [] → (column 0 t ≡ r .statistics .pages) × (column 1 t ≡ r .statistics .items)
       none {k} e f = told-columns r t (rowsOf w []) k (counted []) e f none-columns
 
-      some-of : (L : Layout) → Here (shape w) b L → toldCounted r ≡ record { refusal = 0; answer = counted (L .blocks) } → t ≡ rowsOf w (L .blocks) → (column 0 t ≡ r .statistics .pages) × (column 1 t ≡ r .statistics .items)
-      some-of L h e f = told-columns r t (rowsOf w (L .blocks)) 0 (counted (L .blocks)) e f (rows-columns (endOf (length b)) L (h .valid))
+      some-of : (L : Layout) → HereIn (shape w) b L → toldCounted r ≡ record { refusal = 0; answer = counted (L .blocks) } → t ≡ rowsOf w (L .blocks) → (column 0 t ≡ r .statistics .pages) × (column 1 t ≡ r .statistics .items)
+      some-of L h e f = told-columns r t (rowsOf w (L .blocks)) 0 (counted (L .blocks)) e f (rows-columns (endOf (length (heapOf (shape w) b))) L (h .here .valid))
 
   pub answers-promised : AnswersPromised w
   unfolding Comes
@@ -114,8 +114,11 @@ module _ {w : ℕ} (wd : Width w) where
         refused-untouched = λ b q k c x. ap (λ (o : Outcome). o .heap) (promised wd .refused-untouched b q (outcome (Refused k) c) x (λ e. omega (arith, e, refusal-some k)));
         answers-only = λ b q r c x. promised wd .answers-only b q (outcome r c) x;
         accepts-exactly = λ b r c x. Iff·trans (is-granted r c) (promised wd .accepts-exactly b (outcome r c) x);
-        stays-sound = λ b q r c x s. subst (λ (d : List ℕ). Sound (shape w) d) (heap-of r c) (promised wd .stays-sound b q (outcome r c) x s);
-        opens-sound = λ b a c x. promised wd .opens-sound b (outcome (Granted a) c) x refl;
+        stays-sound = λ b q r c x s. subst (λ (d : List ℕ). SoundIn (shape w) d) (heap-of r c) (promised wd .stays-sound b q (outcome r c) x s);
+        opens-sound = λ b e a c x. promised wd .opens-sound b e (outcome (Granted a) c) x refl;
+        end-rises = λ b q r c x s. subst (λ (d : List ℕ). storedEnd (shape w) b ≤ storedEnd (shape w) d) (heap-of r c) (promised wd .end-rises b q (outcome r c) x s);
+        end-stays = λ b q r c x s z. subst (λ (d : List ℕ). storedEnd (shape w) d ≡ storedEnd (shape w) b) (heap-of r c) (promised wd .end-stays b q (outcome r c) x s z);
+        behind-untouched = λ b q r c x. subst (λ (d : List ℕ). (i : ℕ) → storedEnd (shape w) d ≤ i → getD d i 0 ≡ getD b i 0) (heap-of r c) (promised wd .behind-untouched b q (outcome r c) x);
         allocate-keeps = λ b n a c L L′ l h x k. promised wd .allocate-keeps b n (granted (a .0) c) L L′ (record { lent = l; here = h; comes = x; granted = refl; then = k });
         free-keeps = λ b a y c L L′ l h x k. promised wd .free-keeps b a (granted (y .0) c) L L′ (record { lent = l; here = h; comes = x; granted = refl; then = k });
         resize-keeps = λ b a n y c L L′ l h x k. promised wd .resize-keeps b a n (granted (y .0) c) L L′ (record { lent = l; here = h; comes = x; granted = refl; then = k });
@@ -131,7 +134,7 @@ module _ {w : ℕ} (wd : Width w) where
         not-live-exactly = λ b a r c L l h x.
             let g = is-refused why.NotLive r c in
             let f = free-answers b a (outcome r c) L (x .sound l L h) in
-            let i = promised wd .found-is-live _ L a (h .valid) in (
+            let i = promised wd .found-is-live _ L a (h .here .valid) in (
               (λ z v k at. i .1 (v, k, at) (f .0 (g .0 z))),
               (λ z. g .1 (f .1 (sure-nothing (find (shape w) a L) (λ n. let live = i .0 n in z (live .0) (live .1) (live .2))))),
             );

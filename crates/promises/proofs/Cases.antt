@@ -3,24 +3,26 @@ use Prim.Native.Nat.{ℕ, _≤_}
 use mathlib.Core.Path.{_≡_, sym, ap, _∙_}
 use mathlib.Core.List.{List}
 use native.Mathlib.Omega.{arith}
+use lib.ListN.{length}
 use Rattle.model.specs.Shape.{Shape}
 use Rattle.model.specs.Layout.{Layout}
-use Rattle.model.specs.Sound.{Here, Sound}
+use Rattle.model.specs.Sound.{MayEnd, HereIn, SoundIn}
 use Rattle.model.specs.Refusals.{badSize}
 use Rattle.model.specs.Calls.{Outcome, refused, Lent, Opened, GoodSize, Checked, sized}
 use Rattle.model.proofs.rules.Sized.{good, bad, good-or-bad}
 
 module _ (S : Shape) (b : List ℕ) {P : Type 0} where
   -- for every call but initialise
-  pub checked-cases : ((Lent S b → ⊥) → P) → (Lent S b → (Opened S b → ⊥) → P) → (Lent S b → Opened S b → (Sound S b → ⊥) → P) → (Lent S b → (L : Layout) → Here S b L → P) → (P → ⊥) → ⊥
+  pub checked-cases : ((Lent S b → ⊥) → P) → (Lent S b → (Opened S b → ⊥) → P) → (Lent S b → Opened S b → (SoundIn S b → ⊥) → P) → (Lent S b → (L : Layout) → HereIn S b L → P) → (P → ⊥) → ⊥
   checked-cases one two three four n = n (one (λ l. n (two l (λ o. n (three l o (λ s. n (four l (s .layout) (s .here))))))))
 
   -- for initialise
-  pub opening-cases : ((Lent S b → ⊥) → P) → (Lent S b → Opened S b → P) → (Lent S b → (Opened S b → ⊥) → P) → (P → ⊥) → ⊥
-  opening-cases one seven opens n = n (one (λ l. n (opens l (λ o. n (seven l o)))))
+  pub opening-cases : (e : ℕ) → ((Lent S b → ⊥) → P) → (Lent S b → Opened S b → P) → (Lent S b → (Opened S b → ⊥) → (MayEnd S (length b) e → ⊥) → P)
+      → (Lent S b → (Opened S b → ⊥) → MayEnd S (length b) e → P) → (P → ⊥) → ⊥
+  opening-cases e one seven eight opens n = n (one (λ l. n (eight l (λ o. n (seven l o)) (λ m. n (opens l (λ o. n (seven l o)) m)))))
 
   -- where a call was granted, only the rule is left
-  pub granted-cases : (rule : Layout → Outcome) (r : Outcome) → Checked S b (refused b) rule r → r .refusal ≡ 0 → (Lent S b → (L : Layout) → Here S b L → r ≡ rule L → P) → (P → ⊥) → ⊥
+  pub granted-cases : (rule : Layout → Outcome) (r : Outcome) → Checked S b (refused b) rule r → r .refusal ≡ 0 → (Lent S b → (L : Layout) → HereIn S b L → r ≡ rule L → P) → (P → ⊥) → ⊥
   granted-cases rule r c g four =
       checked-cases (λ m. absurd (omega (arith, is-zero (c .one m)))) (λ l m. absurd (omega (arith, is-zero (c .two l m)))) (λ l o m. absurd (omega (arith, is-zero (c .three l o m)))) (λ l L h. four l L h (c .sound l L h))
     where

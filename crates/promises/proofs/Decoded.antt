@@ -11,11 +11,11 @@ use lib.Dec.{eqb, leb}
 use borrow.Author.Tests.{eq-eqb, ne-eqb, le-leb, lt-leb}
 use Rattle.words.specs.Width.{Width}
 use Rattle.words.specs.Word.{wordAt}
-use Rattle.model.specs.Shape.{shape, start, leastFree, leastVariable, classOf, itemSize, pageNeed, endOf}
+use Rattle.model.specs.Shape.{shape, leastEnd, start, leastFree, leastVariable, classOf, itemSize, pageNeed, endOf}
 use Rattle.model.specs.Parts.{freeFlags, flagsIn, askedIn, headAt}
 use Rattle.model.specs.Picture.{Word, Shows}
 use Rattle.model.specs.Layout.{Slot, idle, held, Use, variable, page, Block, free, used, Layout, ifFree, useSize, sizeOf, ends, words}
-use Rattle.model.specs.Sound.{times, Within, AllWithin, Apart, AllowedUse, Allowed, AllAllowed, idleItems, Valid, Here, Sound}
+use Rattle.model.specs.Sound.{times, Within, AllWithin, Apart, AllowedUse, Allowed, AllAllowed, idleItems, Valid, Here, storedEnd, heapOf, HereIn, SoundIn}
 use Rattle.model.proofs.Sizes.{flags-idle}
 use Rattle.model.proofs.items.Asked.{asked-in}
 use Rattle.model.proofs.blocks.Blocks.{le-ends}
@@ -208,6 +208,19 @@ module _ {w : ℕ} (wd : Width w) where
         shown = sure-shows b (words (shape w) (endOf (length b)) L) (so (λ h. h .shown) n);
       }
 
+  sure-in : (b : List ℕ) (L : Layout) → Sure (HereIn (shape w) b L) → HereIn (shape w) b L
+  sure-in b L n =
+      record {
+        ended = (
+          sure-le (leastEnd (shape w) (endOf (length b))) (storedEnd (shape w) b) (so (λ h. h .ended .0) n),
+          sure-le (storedEnd (shape w) b) (endOf (length b)) (so (λ h. h .ended .1) n),
+          numbers (storedEnd (shape w) b % 8) 0 (so (λ h. h .ended .2) n),
+        );
+        here = sure-here (heapOf (shape w) b) L (so (λ h. h .here) n);
+      }
+
   -- THE LAW: a heap that cannot be unsound is sound
-  pub sure-sound : (b : List ℕ) → ((Sound (shape w) b → ⊥) → ⊥) → Sound (shape w) b
-  sure-sound b n = record { layout = decoded b; here = sure-here b (decoded b) (so (λ s. subst (λ (L : Layout). Here (shape w) b L) (sym (decoded-is b (s .layout) (s .here))) (s .here)) n) }
+  pub sure-sound : (b : List ℕ) → ((SoundIn (shape w) b → ⊥) → ⊥) → SoundIn (shape w) b
+  sure-sound b n =
+      let own = heapOf (shape w) b in
+      record { layout = decoded own; here = sure-in b (decoded own) (so (λ s. subst (λ (L : Layout). HereIn (shape w) b L) (sym (decoded-is own (s .layout) (s .here .here))) (s .here)) n) }

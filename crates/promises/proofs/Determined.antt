@@ -15,12 +15,14 @@ module _ (S : Shape) (b : List ℕ) where
       s r r′
       (checked-cases S b (λ m. c .one m ∙ sym (d .one m)) (λ l m. c .two l m ∙ sym (d .two l m)) (λ l o m. c .three l o m ∙ sym (d .three l o m)) (λ l L h. c .sound l L h ∙ sym (d .sound l L h)))
 
-  opened-one : (r r′ : Outcome) → Initialises S b r → Initialises S b r′ → r ≡ r′
-  opened-one r r′ c d = outcomes r r′ (opening-cases S b (λ m. c .one m ∙ sym (d .one m)) (λ l o. c .seven l o ∙ sym (d .seven l o)) (λ l m. c .opens l m ∙ sym (d .opens l m)))
+  opened-one : (e : ℕ) (r r′ : Outcome) → Initialises S b e r → Initialises S b e r′ → r ≡ r′
+  opened-one e r r′ c d =
+      outcomes r r′
+      (opening-cases S b e (λ m. c .one m ∙ sym (d .one m)) (λ l o. c .seven l o ∙ sym (d .seven l o)) (λ l m k. c .eight l m k ∙ sym (d .eight l m k)) (λ l m k. c .opens l m k ∙ sym (d .opens l m k)))
 
 pub determined : (S : Shape) → Determined S
 unfolding Comes
-determined S b initialising r r′ c d = opened-one S b r r′ c d
+determined S b (initialising e) r r′ c d = opened-one S b e r r′ c d
 determined S b checking r r′ c d = checked-one S b outcomes _ _ r r′ c d
 determined S b (allocating n) r r′ c d = checked-one S b outcomes _ _ r r′ c d
 determined S b (freeing a) r r′ c d = checked-one S b outcomes _ _ r r′ c d

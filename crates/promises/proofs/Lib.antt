@@ -5,7 +5,9 @@ pub mod Refused
 pub mod Decoded
 pub mod Accepts
 pub mod Opened
+pub mod Heaps
 pub mod Answers
+pub mod Lifting
 pub mod AllocateKept
 pub mod FreeKept
 pub mod Parts
@@ -16,6 +18,7 @@ pub mod ResizeKept
 pub mod Places
 pub mod AskedShown
 pub mod StaysSound
+pub mod Ends
 pub mod SweepKept
 pub mod NoRoomExact
 pub mod Longer

@@ -22,7 +22,7 @@ use Rattle.model.proofs.Good.{shape-good}
 use Rattle.model.proofs.lives.Payloads.{in-area, content-kept}
 use Rattle.model.proofs.rules.Allocation.{Granted, allocate-grants}
 use Rattle.model.proofs.pictures.Written.{kept-here}
-use Rattle.promises.proofs.Answers.{Does, draws, drawn-length, drawn-bytes}
+use Rattle.promises.proofs.Heaps.{Does, draws, drawn-length, drawn-bytes}
 use Rattle.model.proofs.lives.LiveFound.{isThere, live-is-there}
 use Rattle.model.proofs.lives.Moving.{live-apart}
 use Rattle.model.proofs.lives.FreeLives.{Removed, freed-removes}

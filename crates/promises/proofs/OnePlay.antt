@@ -6,13 +6,13 @@ use native.Mathlib.Omega.{arith}
 use native.Mathlib.Decide.{ℕ-discrete, decLt}
 use lib.ListN.{length, take, drop}
 use Rattle.words.specs.Word.{wordAt}
-use Rattle.model.specs.Shape.{wide}
+use Rattle.model.specs.Shape.{wide, endOf}
 use Rattle.model.specs.Reading as reading
 use Rattle.model.specs.Calls.{Outcome, Told, Initialises, Allocates, Frees, Resizes}
 use Rattle.model.specs.Promises.{initialising, allocating, freeing, resizing, Comes}
 use Rattle.records.specs.declared.Line.{Line}
 use Rattle.records.specs.declared.Played.{Played}
-use Rattle.records.specs.Lines.{Called, CountsIn, OpensIn, CallPlayed, Plays, clip}
+use Rattle.records.specs.Lines.{Called, CountsIn, OpensIn, CallPlayed, clip}
 use Rattle.promises.specs.Listed.{OnePlay}
 use Rattle.promises.proofs.Stable.{tolds, statistics}
 use Rattle.promises.proofs.Determined.{checked-one, determined}
@@ -60,7 +60,7 @@ opens-one b lent n r r′ c c′ x y = go (decLt (length b) n)
     go (yes l) = (x .beyond l .0 ∙ sym (y .beyond l .0), x .beyond l .1 ∙ sym (y .beyond l .1))
     go (no l) =
         let m : n ≤ length b = omega (arith, l) in
-        let e = called-one (Initialises wide (take n b)) (determined wide (take n b) initialising) b n (r .line) (r′ .line) c c′ (x .within m) (y .within m) in
+        let e = called-one (Initialises wide (take n b) (endOf n)) (determined wide (take n b) (initialising (endOf n))) b n (r .line) (r′ .line) c c′ (x .within m) (y .within m) in
         (ap₂ (λ (z : Line) (k : ℕ). record { line = z; lent = k }) (e .0) (kept m (e .0) (ℕ-discrete (r .line .refusal) 0)), e .1)
       where
         kept : n ≤ length b → r .line ≡ r′ .line → Dec (r .line .refusal ≡ 0) → r .lent ≡ r′ .lent

@@ -9,18 +9,19 @@ use denote.Ref.{RefT, now, ptr}
 use lib.ListN.{length}
 use lib.Dec.{eqb}
 use Rattle.model.specs.Shape.{shape}
-use Rattle.model.specs.Sound.{Sound}
+use Rattle.model.specs.Sound.{SoundIn}
 use Rattle.model.specs.Reading as reading
 use Rattle.model.specs.Reading.{aFree, aVariable, aPage, theEnd}
 use Rattle.model.specs.Calls.{Outcome, Told, Lent, number}
 use Rattle.model.specs.Promises.{sweeping, Comes}
+use Rattle.model.proofs.pictures.Fronts.{own-opened}
 use Rattle.reading.specs.declared.stepping.Kind.{Kind}
 use Rattle.reading.specs.declared.stepping.Kind.the-variants.{Free, Variable, Page, End}
 use Rattle.reading.specs.Stepping.{toldKind}
 use Rattle.serving.specs.declared.Answer.{Answer}
 use Rattle.serving.specs.declared.Answer.the-variants.{Granted, Refused}
 use Rattle.examining.specs.declared.Refusal.{Refusal}
-use Rattle.examining.specs.declared.Refusal.the-variants.{BadLength, NotOpened, NotSound, BadSize, NotLive, NoRoom, AlreadyOpened}
+use Rattle.examining.specs.declared.Refusal.the-variants.{BadLength, NotOpened, NotSound, BadSize, NotLive, NoRoom, AlreadyOpened, BadEnd}
 use Rattle.serving.specs.declared.recovery.Swept.{Swept}
 use Rattle.serving.specs.declared.recovery.Swept.the-variants as swept
 use Rattle.examining.specs.declared.Verdict.{Verdict}
@@ -44,7 +45,8 @@ refusalOf n =
     (cond (eqb n 3) NotSound
     (cond (eqb n 4) BadSize
     (cond (eqb n 5) NotLive
-    (cond (eqb n 6) NoRoom AlreadyOpened)))))
+    (cond (eqb n 6) NoRoom
+    (cond (eqb n 7) AlreadyOpened BadEnd))))))
 
 refusal-back : (k : Refusal) → refusalOf (refusalNumber k) ≡ k
 unfolding refusalOf
@@ -55,6 +57,7 @@ refusal-back BadSize = refl
 refusal-back NotLive = refl
 refusal-back NoRoom = refl
 refusal-back AlreadyOpened = refl
+refusal-back BadEnd = refl
 
 pub refusal-one : (k j : Refusal) → refusalNumber k ≡ refusalNumber j → k ≡ j
 refusal-one k j e = sym (refusal-back k) ∙ ap refusalOf e ∙ refusal-back j
@@ -67,6 +70,7 @@ refusal-some BadSize = omega arith
 refusal-some NotLive = omega arith
 refusal-some NoRoom = omega arith
 refusal-some AlreadyOpened = omega arith
+refusal-some BadEnd = omega arith
 
 -- what an answer means is one to one
 pub outcome-one : (r r′ : Answer) (c c′ : List ℕ) → outcome r c ≡ outcome r′ c′ → (r ≡ r′) × (c ≡ c′)
@@ -132,6 +136,7 @@ module _ (w : ℕ) where
   unfit-one b BadLength NotLive u v = absurd v
   unfit-one b BadLength NoRoom u v = absurd v
   unfit-one b BadLength AlreadyOpened u v = absurd v
+  unfit-one b BadLength BadEnd u v = absurd v
   unfit-one b NotOpened BadLength u v = absurd (v (u .0))
   unfit-one b NotOpened NotOpened u v = refl
   unfit-one b NotOpened NotSound u v = absurd (u .1 (v .1))
@@ -139,6 +144,7 @@ module _ (w : ℕ) where
   unfit-one b NotOpened NotLive u v = absurd v
   unfit-one b NotOpened NoRoom u v = absurd v
   unfit-one b NotOpened AlreadyOpened u v = absurd v
+  unfit-one b NotOpened BadEnd u v = absurd v
   unfit-one b NotSound BadLength u v = absurd (v (u .0))
   unfit-one b NotSound NotOpened u v = absurd (v .1 (u .1))
   unfit-one b NotSound NotSound u v = refl
@@ -146,20 +152,23 @@ module _ (w : ℕ) where
   unfit-one b NotSound NotLive u v = absurd v
   unfit-one b NotSound NoRoom u v = absurd v
   unfit-one b NotSound AlreadyOpened u v = absurd v
+  unfit-one b NotSound BadEnd u v = absurd v
   unfit-one b BadSize j u v = absurd u
   unfit-one b NotLive j u v = absurd u
   unfit-one b NoRoom j u v = absurd u
   unfit-one b AlreadyOpened j u v = absurd u
+  unfit-one b BadEnd j u v = absurd u
 
-  fine-fit : (b : List ℕ) (k : Refusal) → Lent (shape w) b × Sound (shape w) b → UnfitFor w b k → ⊥
+  fine-fit : (b : List ℕ) (k : Refusal) → Lent (shape w) b × SoundIn (shape w) b → UnfitFor w b k → ⊥
   unfolding UnfitFor
   fine-fit b BadLength s u = u (s .0)
-  fine-fit b NotOpened s u = u .1 (s .1 .here .magic)
+  fine-fit b NotOpened s u = u .1 (own-opened (shape w) b (s .1 .layout) (s .1 .here))
   fine-fit b NotSound s u = u .2 (s .1)
   fine-fit b BadSize s u = u
   fine-fit b NotLive s u = u
   fine-fit b NoRoom s u = u
   fine-fit b AlreadyOpened s u = u
+  fine-fit b BadEnd s u = u
 
   verdict-one : (b : List ℕ) (v v′ : Verdict) → Examined w b v → Examined w b v′ → v ≡ v′
   unfolding Examined

@@ -16,6 +16,7 @@ use Rattle.promises.proofs.FoundLive.{found-is-live, look-up-shows, sho
 use Rattle.promises.proofs.Accepts.{accepts-exactly}
 use Rattle.promises.proofs.StaysSound.{stays-sound}
 use Rattle.promises.proofs.Opened.{opens-sound}
+use Rattle.promises.proofs.Ends.{end-rises, end-stays, behind-untouched}
 use Rattle.promises.proofs.AllocateKept.{allocate-keeps}
 use Rattle.promises.proofs.FreeKept.{free-keeps}
 use Rattle.promises.proofs.ResizeKept.{resize-keeps, each-way-keeps}
@@ -24,15 +25,15 @@ use Rattle.promises.proofs.ClosedWait.{closed-wait}
 use Rattle.promises.proofs.Places.{in-place-stays, move-moves}
 use Rattle.promises.proofs.SweepKept.{sweep-keeps, swept-stays, sweep-counts}
 use Rattle.promises.proofs.NoRoomExact.{no-room-exactly, smaller-kept}
-use Rattle.promises.proofs.Longer.{longer-agrees}
+use Rattle.promises.proofs.Longer.{longer-agrees, same-start-agrees}
 
 pub promised : {w : ℕ} → Width w → Promised (shape w)
 promised {w} wd =
     record {
       determined = determined (shape w);
       reading-determined = reading-determined (shape w);
-      refused-untouched = refused-untouched (shape w);
-      answers-only = answers-only (shape w);
+      refused-untouched = refused-untouched wd;
+      answers-only = answers-only wd;
       reading-answers-only = reading-answers-only (shape w);
       accepts-exactly = accepts-exactly wd;
       one-layout = one-layout wd;
@@ -40,6 +41,9 @@ promised {w} wd =
       layout-before = layout-before (shape w) (shape-good wd);
       stays-sound = stays-sound wd;
       opens-sound = opens-sound wd;
+      end-rises = end-rises wd;
+      end-stays = end-stays wd;
+      behind-untouched = behind-untouched wd;
       no-overlap = no-overlap (shape w);
       in-area = in-area (shape w);
       no-word-inside = no-word-inside (shape w);
@@ -52,15 +56,16 @@ promised {w} wd =
       each-way-keeps = each-way-keeps wd;
       asked-shown = asked-shown wd;
       closed-wait = closed-wait wd;
-      in-place-stays = in-place-stays (shape w);
+      in-place-stays = in-place-stays wd;
       move-moves = move-moves wd;
-      split-gives = split-gives (shape w);
+      split-gives = split-gives wd;
       sweep-keeps = sweep-keeps wd;
       swept-stays = swept-stays wd;
       sweep-counts = sweep-counts wd;
       no-room-exactly = no-room-exactly wd;
       smaller-kept = smaller-kept wd;
       longer-agrees = longer-agrees wd;
+      same-start-agrees = same-start-agrees wd;
     }
 
 pub wide-promised : Promised wide

@@ -6,9 +6,10 @@ use mathlib.Core.List.{List, [], _∷_}
 use lib.ListN.{length}
 use Rattle.words.specs.Word.{Bytes}
 use Rattle.model.specs.Picture.{Word, Shows}
-use Rattle.model.specs.Shape.{shape}
-use Rattle.model.specs.Refusals.{noRoom}
-use Rattle.model.specs.Calls.{staying, moving, Outcome, Opened, Initialises, Allocates}
+use Rattle.model.specs.Shape.{shape, endOf}
+use Rattle.model.specs.Live.{_∈_}
+use Rattle.model.specs.Refusals.{noRoom, badEnd}
+use Rattle.model.specs.Calls.{staying, moving, Outcome, refused, Opened, Initialises, Allocates}
 use Rattle.model.specs.Promises.{Call, initialising, allocating, freeing, resizing, resizingBy, sweeping, Comes, Reply}
 
 -- an answer: a refusal and an address; a word: a position and its value
@@ -18,19 +19,24 @@ says k a = record { refusal = k; address = a }
 abbrev pub word : ℕ → ℕ → Word
 word p v = record { at = p; is = v }
 
--- a figure: a heap's length, the calls after initialise, the answers from initialise's on, words of the heap then, and whether the last call is said to change nothing
+-- a figure: a buffer's length, where a heap is started in it, the calls after initialise, the answers from initialise's on, words of the heap then, and whether the last call is said to change nothing
 pub record Figure : Type 0 where
   pub bytes : ℕ
+  pub start : ℕ
   pub calls : List Call
   pub answers : List Reply
   pub words : List Word
   pub still : Bool
 
 abbrev pub figure : ℕ → List Call → List Reply → List Word → Figure
-figure n qs rs ws = record { bytes = n; calls = qs; answers = rs; words = ws; still = false }
+figure n qs rs ws = record { bytes = n; start = endOf n; calls = qs; answers = rs; words = ws; still = false }
 
 abbrev pub unchanged : ℕ → List Call → List Reply → List Word → Figure
-unchanged n qs rs ws = record { bytes = n; calls = qs; answers = rs; words = ws; still = true }
+unchanged n qs rs ws = record { bytes = n; start = endOf n; calls = qs; answers = rs; words = ws; still = true }
+
+-- of a heap that is started at e
+abbrev pub started : ℕ → Figure → Figure
+started e f = record { bytes = f .bytes; start = e; calls = f .calls; answers = f .answers; words = f .words; still = f .still }
 
 -- of document 01's heap: its list, and then the requests' figures
 unfoldable pub table : List Figure
@@ -96,6 +102,21 @@ table =
     ∷ figure 10000 (allocating 256 ∷ resizingBy staying 320 129 ∷ []) (says 0 0 ∷ says 0 320 ∷ says 0 320 ∷ []) (word 312 154 ∷ word 24 464 ∷ word 464 9536 ∷ [])
     ∷ figure 10000 (allocating 256 ∷ resizingBy staying 320 129 ∷ resizing 320 200 ∷ []) (says 0 0 ∷ says 0 320 ∷ says 0 320 ∷ says 0 320 ∷ []) (word 312 218 ∷ word 24 528 ∷ word 528 9472 ∷ [])
     ∷ unchanged 10000 (allocating 256 ∷ resizingBy staying 320 128 ∷ []) (says 0 0 ∷ says 0 320 ∷ says 6 0 ∷ []) (word 312 274 ∷ [])
+    -- (v) N 10,000, started at 344: end 344, a free block of 32 at 312
+    ∷ started 344 (figure 10000 [] (says 0 0 ∷ []) (word 32 344 ∷ word 24 312 ∷ word 312 32 ∷ []))
+    -- allocate 300: address 320, the free block enlarged to 320, end 632, and no free block; then 16: a page of 4,120 at 632, address 648, end 4,752
+    ∷ started 344 (figure 10000 (allocating 300 ∷ []) (says 0 0 ∷ says 0 320 ∷ []) (word 32 632 ∷ word 24 0 ∷ word 312 322 ∷ []))
+    ∷ started 344 (figure 10000 (allocating 300 ∷ allocating 16 ∷ []) (says 0 0 ∷ says 0 320 ∷ says 0 648 ∷ []) (word 32 4752 ∷ word 24 0 ∷ word 632 4123 ∷ word 640 2055 ∷ []))
+    -- then resize 320 to 400: it moves to 4,760, end 5,168, and 312 is free; in place to 400 instead: 6, the end stays
+    ∷ started 344 (figure 10000 (allocating 300 ∷ allocating 16 ∷ resizing 320 400 ∷ []) (says 0 0 ∷ says 0 320 ∷ says 0 648 ∷ says 0 4760 ∷ []) (word 32 5168 ∷ word 24 312 ∷ word 312 320 ∷ word 4752 418 ∷ []))
+    ∷ started 344 (unchanged 10000 (allocating 300 ∷ allocating 16 ∷ resizingBy staying 320 400 ∷ []) (says 0 0 ∷ says 0 320 ∷ says 0 648 ∷ says 6 0 ∷ []) (word 32 4752 ∷ []))
+    -- N 1,000, started at 344: allocate 672: address 320, end 1,000; then 257: 6; 673 instead: 6, and the end stays
+    ∷ started 344 (figure 1000 (allocating 672 ∷ []) (says 0 0 ∷ says 0 320 ∷ []) (word 32 1000 ∷ word 24 0 ∷ word 312 690 ∷ []))
+    ∷ started 344 (unchanged 1000 (allocating 672 ∷ allocating 257 ∷ []) (says 0 0 ∷ says 0 320 ∷ says 6 0 ∷ []) (word 32 1000 ∷ []))
+    ∷ started 344 (unchanged 1000 (allocating 673 ∷ []) (says 0 0 ∷ says 6 0 ∷ []) (word 32 344 ∷ []))
+    -- N 1,000, started at 632, allocate 300, then 129: a block of 152 is added behind the one in use, end 784; free 320, then 400: 312 is too small, so one of 416 would pass 1,000: 6
+    ∷ started 632 (figure 1000 (allocating 300 ∷ allocating 129 ∷ []) (says 0 0 ∷ says 0 320 ∷ says 0 640 ∷ []) (word 32 784 ∷ word 632 154 ∷ word 24 0 ∷ []))
+    ∷ started 632 (unchanged 1000 (allocating 300 ∷ allocating 129 ∷ freeing 320 ∷ allocating 400 ∷ []) (says 0 0 ∷ says 0 320 ∷ says 0 640 ∷ says 0 0 ∷ says 6 0 ∷ []) (word 32 784 ∷ word 24 312 ∷ []))
     ∷ []
 
 -- of the hand unit's heap (viii)
@@ -161,11 +182,15 @@ module _ (w : ℕ) where
   -- a figure holds of the calls: for any bytes of its length that are not yet a heap, and any outcomes of its calls
   abbrev pub OnBytes : Figure → Type 0
   OnBytes f =
-      (b : List ℕ) → length b ≡ f .bytes → (Opened (shape w) b → ⊥) → (rs : List Outcome) → Outcomes b (initialising ∷ f .calls) rs
+      (b : List ℕ) → length b ≡ f .bytes → (Opened (shape w) b → ⊥) → (rs : List Outcome) → Outcomes b (initialising (f .start) ∷ f .calls) rs
       → (answered rs ≡ f .answers) × Shows w (heapThen b rs) (f .words) × (f .still ≡ true → Bytes b → heapThen b rs ≡ heapBefore b rs)
 
-  -- allocate n needs a heap of N bytes: on every fresh heap that is shorter it answers 6, and on every other it is granted
+  -- starting ends at which no heap of N bytes may be: initialise answers 8
+  abbrev pub BadEnds : ℕ → List ℕ → Type 0
+  BadEnds N es = (e : ℕ) → e ∈ es → (b : List ℕ) (r : Outcome) → length b ≡ N → (Opened (shape w) b → ⊥) → Initialises (shape w) b e r → r ≡ refused b badEnd
+
+  -- allocate n needs a heap of N bytes: on every fresh heap that ends with its buffer and is shorter it answers 6, and on every other it is granted
   abbrev pub Needs : ℕ → ℕ → Type 0
   Needs n N =
-      (b : List ℕ) (r o : Outcome) → Initialises (shape w) b r → r .refusal ≡ 0 → Allocates (shape w) (r .heap) n o
+      (b : List ℕ) (r o : Outcome) → Initialises (shape w) b (endOf (length b)) r → r .refusal ≡ 0 → Allocates (shape w) (r .heap) n o
       → (length b < N → o .refusal ≡ noRoom) × (N ≤ length b → o .refusal ≡ 0)

@@ -8,7 +8,7 @@ use lib.ListN.{length, take, drop}
 use borrow.Author.Tests.{lt-ltb, le-ltb, ltb-false}
 use lib.Dec.{ltb}
 use Rattle.words.specs.Word.{wordAt}
-use Rattle.model.specs.Shape.{wide}
+use Rattle.model.specs.Shape.{wide, endOf}
 use Rattle.model.specs.Calls.{Outcome, Initialises, Counts}
 use Rattle.examining.specs.declared.Refusal.the-variants.{BadLength}
 use Rattle.serving.specs.declared.Answer.{Answer}
@@ -42,14 +42,14 @@ module _ (b : List ℕ) (lent n : ℕ) where
         refused = λ k. absurd (omega arith);
       }
 
-  module _ (h : n ≤ length b) (r : Answer) (l : Line) (ys : List ℕ) (a : Initialises wide (take (n - 0) b) (outcome r ys)) (e : l ≡ lineOf r) where
+  module _ (h : n ≤ length b) (r : Answer) (l : Line) (ys : List ℕ) (end : ℕ) (f : end ≡ endOf n) (a : Initialises wide (take (n - 0) b) end (outcome r ys)) (e : l ≡ lineOf r) where
     pub opens-granted : l .refusal ≡ 0 → OpensIn b lent n (record { line = l; lent = n }) (ys ++ drop (n - 0) b)
     opens-granted z =
-        record { beyond = λ k. absurd (omega arith); within = λ _. called (λ d o. Initialises wide d o) b n r l ys a e; granted = λ _ _. refl; refused = λ _ k. absurd (k z) }
+        record { beyond = λ k. absurd (omega arith); within = λ _. called (λ d o. Initialises wide d (endOf n) o) b n r l ys (subst (λ (x : ℕ). Initialises wide (take (n - 0) b) x (outcome r ys)) f a) e; granted = λ _ _. refl; refused = λ _ k. absurd (k z) }
 
     pub opens-refused : (l .refusal ≡ 0 → ⊥) → OpensIn b lent n (record { line = l; lent = lent }) (ys ++ drop (n - 0) b)
     opens-refused z =
-        record { beyond = λ k. absurd (omega arith); within = λ _. called (λ d o. Initialises wide d o) b n r l ys a e; granted = λ _ k. absurd (z k); refused = λ _ _. refl }
+        record { beyond = λ k. absurd (omega arith); within = λ _. called (λ d o. Initialises wide d (endOf n) o) b n r l ys (subst (λ (x : ℕ). Initialises wide (take (n - 0) b) x (outcome r ys)) f a) e; granted = λ _ k. absurd (z k); refused = λ _ _. refl }
 
 -- the statistics, told as a line
 pub counts-line : (b : List ℕ) (n : ℕ) (r : serving-counted.Counted) → Counts wide (take (n - 0) b) (toldCounted r)

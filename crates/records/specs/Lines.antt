@@ -6,7 +6,7 @@ use mathlib.Core.List.{List, [], _∷_, _++_}
 use lib.ListN.{length, take, drop}
 use lib.Dec.{eqb, ltb}
 use Rattle.words.specs.Word.{wordAt}
-use Rattle.model.specs.Shape.{wide}
+use Rattle.model.specs.Shape.{wide, endOf}
 use Rattle.model.specs.Calls.{Outcome, Told, Allocates, Resizes, Frees, Initialises, Counts}
 use Rattle.model.specs.Reading.{Statistics}
 use Rattle.serving.specs.declared.Answer.{Answer}
@@ -45,10 +45,10 @@ pub record CountsIn (b : List ℕ) (n : ℕ) (l : Line) : Type 0 where
   pub refusal : l .refusal ≡ answer .refusal
   pub numbers : l .numbers ≡ answer .answer .freeBytes ∷ answer .answer .freeBlocks ∷ answer .answer .largestFree ∷ answer .answer .variables ∷ answer .answer .pages ∷ answer .answer .items ∷ []
 
--- of opening a heap in the first n bytes: a length beyond the buffer answers 1; what is granted is the heap from then on
+-- of opening a heap in the first n bytes, up to their furthest end: a length beyond the buffer answers 1; what is granted is the heap from then on
 pub record OpensIn (b : List ℕ) (lent n : ℕ) (r : Played) (c : List ℕ) : Type 0 where
   pub beyond : length b < n → (r ≡ record { line = lineOf (Refused BadLength); lent = lent }) × (c ≡ b)
-  pub within : n ≤ length b → Called (Initialises wide (take n b)) b n (r .line) c
+  pub within : n ≤ length b → Called (Initialises wide (take n b) (endOf n)) b n (r .line) c
   pub granted : n ≤ length b → r .line .refusal ≡ 0 → r .lent ≡ n
   pub refused : n ≤ length b → (r .line .refusal ≡ 0 → ⊥) → r .lent ≡ lent
 

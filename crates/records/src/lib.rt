@@ -3,6 +3,7 @@ use heap::Answer;
 use heap::Refusal;
 use heap::refusal_number;
 use model::Address;
+use model::end_of;
 ghost use mathlib.Core.Path.{_≡_};
 ghost use Prim.Native.Nat.{_≤_, _<_};
 ghost use lib.ListN.{length};
@@ -84,7 +85,7 @@ pub struct Played {
     pub lent: usize,
 }
 
-// Opens a heap in the first n bytes of the buffer: from then on these are the heap, or still the first `lent` where that is refused.
+// Opens a heap in the first n bytes of the buffer, up to their furthest end: from then on these are the heap, or still the first `lent` where that is refused.
 pub fn open(h: &mut [u8], lent: usize, n: u64) -> Played
     ensures { λ r. ⌜ OpensIn (now (h .entry)) lent n r (now (h .exit)) ⌝ }
 {
@@ -96,7 +97,8 @@ pub fn open(h: &mut [u8], lent: usize, n: u64) -> Played
             lent: lent,
         };
     }
-    let r = heap::initialise(&mut h[0..length]);
+    let end = end_of(length);
+    let r = heap::initialise(&mut h[0..length], end);
     let l = told(r);
     if l.refusal == 0 {
         return Played {

@@ -18,9 +18,10 @@ use Rattle.model.specs.Layout.{Layout}
 use Rattle.model.specs.Sound.{Here}
 use Rattle.model.specs.Rules.{Spot, Made, Found, block, thing, nothing, find, allocate, capacity, shownOf, renewed, stays, freed}
 use Rattle.model.specs.Refusals.{noRoom}
-use Rattle.model.specs.Calls.{Way, staying, moving, keeping, refused, granted, drawn, made, without, placed, movedBytes, oneWay, resizedBy}
+use Rattle.model.specs.Calls.{Way, staying, moving, keeping, refused, granted, drawn, made, without, placed, movedBytes}
+use Rattle.model.specs.inner.Ways.{heapWay, heapResized}
 use Rattle.model.proofs.Good.{shape-good}
-use Rattle.model.proofs.rules.ResizeWays.{by-nowhere, by-there}
+use Rattle.model.proofs.rules.ResizeWays.{heap-nowhere, heap-there}
 use Rattle.model.proofs.walks.Finding.{item-found}
 use Rattle.model.proofs.lives.LiveFound.{there-is}
 use Rattle.model.proofs.items.ItemPlaces.{allocate-still}
@@ -53,8 +54,8 @@ not-nothing-block : (t : Spot) → block t ≡ nothing → ⊥
 not-nothing-block t e = let z : _≡_ {A = ℕ} 0 1 = cc in omega arith
 
 -- of what is live, a way gives its own outcome
-by-live : (w : ℕ) (b : List ℕ) (a n : ℕ) (L : Layout) → (find (shape w) a L ≡ nothing → ⊥) → (v : Way) → resizedBy (shape w) v b a n L ≡ oneWay (shape w) v b a n L
-by-live w b a n L live v = by-there (shape w) b a n L v (there-is (find (shape w) a L) live)
+by-live : (w : ℕ) (b : List ℕ) (a n : ℕ) (L : Layout) → (find (shape w) a L ≡ nothing → ⊥) → (v : Way) → heapResized (shape w) v b a n L ≡ heapWay (shape w) v b a n L
+by-live w b a n L live v = heap-there (shape w) b a n L v (there-is (find (shape w) a L) live)
 
 -- a move that found no room, and one that did
 module _ {w : ℕ} {b : List ℕ} {a k n : ℕ} {t : Taken} {c : List ℕ} (g : Carried w b a k n t c) where
@@ -89,10 +90,10 @@ module _ {w : ℕ} {b : List ℕ} {a k n : ℕ} {t : Taken} {c : List ℕ} (g : 
 
 -- in place, and not
 module _ (w : ℕ) (b : List ℕ) (a n : ℕ) (L : Layout) (live : find (shape w) a L ≡ nothing → ⊥) where
-  as-placed : (o : Option Layout) → stays (shape w) n (find (shape w) a L) L ≡ o → placed (shape w) b a o ≡ resizedBy (shape w) staying b a n L
+  as-placed : (o : Option Layout) → stays (shape w) n (find (shape w) a L) L ≡ o → placed (shape w) b a o ≡ heapResized (shape w) staying b a n L
   as-placed o s = rw (sym s) (sym (by-live w b a n L live staying))
 
-  remains : (c : List ℕ) (M : Layout) → stays (shape w) n (find (shape w) a L) L ≡ some M → c ≡ drawn (shape w) M b → granted a c ≡ resizedBy (shape w) staying b a n L
+  remains : (c : List ℕ) (M : Layout) → stays (shape w) n (find (shape w) a L) L ≡ some M → c ≡ drawn (shape w) M b → granted a c ≡ heapResized (shape w) staying b a n L
   remains c M s e = ap (λ (y : List ℕ). granted a y) e ∙ as-placed (some M) s
 
 -- an item
@@ -191,14 +192,14 @@ module _ {w : ℕ} {b : List ℕ} {a : ℕ} {x : UsedBlock} (i : BlockLiveAt w b
     pub reshaped-there : r ≡ true → ByWay w staying b a n (to.To (record { 0 = a })) c
     reshaped-there e = record { is = λ L h. go L h (stays (shape w) n (find (shape w) a L) L) refl (told L h) }
       where
-        go : (L : Layout) (h : Here (shape w) b L) (o : Option Layout) → stays (shape w) n (find (shape w) a L) L ≡ o → Stays w b L o r c → granted a c ≡ resizedBy (shape w) staying b a n L
+        go : (L : Layout) (h : Here (shape w) b L) (o : Option Layout) → stays (shape w) n (find (shape w) a L) L ≡ o → Stays w b L o r c → granted a c ≡ heapResized (shape w) staying b a n L
         go L h none s v = absurd (yes-no (sym e ∙ v .answer))
         go L h (some M) s v = remains w b a n L (block-is-live L h) c M s (v .bytes)
 
     pub not-reshaped : r ≡ false → ByWay w staying b a n to.NoRoom c
     not-reshaped e = record { is = λ L h. go L h (stays (shape w) n (find (shape w) a L) L) refl (told L h) }
       where
-        go : (L : Layout) (h : Here (shape w) b L) (o : Option Layout) → stays (shape w) n (find (shape w) a L) L ≡ o → Stays w b L o r c → refused c noRoom ≡ resizedBy (shape w) staying b a n L
+        go : (L : Layout) (h : Here (shape w) b L) (o : Option Layout) → stays (shape w) n (find (shape w) a L) L ≡ o → Stays w b L o r c → refused c noRoom ≡ heapResized (shape w) staying b a n L
         go L h none s v = ap (λ (y : List ℕ). refused y noRoom) (v .bytes) ∙ as-placed w b a n L (block-is-live L h) none s
         go L h (some M) s v = absurd (yes-no (sym (v .answer) ∙ e))
 
@@ -209,7 +210,7 @@ module _ {w : ℕ} (b : List ℕ) (a : ℕ) (k : Ready w b) (x : Live) (f : (L :
 
   pub nothing-live : {v : Way} {n : ℕ} → x ≡ Nothing → ByWay w v b a n to.NotLive b
   unfolding Finds
-  nothing-live {v} {n} e = record { is = λ L h. sym (by-nowhere (shape w) b a n L v (found-as Nothing e L h)) }
+  nothing-live {v} {n} e = record { is = λ L h. sym (heap-nowhere (shape w) b a n L v (found-as Nothing e L h)) }
 
   pub item-at : (q : Position) (c n : ℕ) → x ≡ Item q c n → ItemLiveAt w b a (q .0) c n
   unfolding Finds
@@ -227,6 +228,6 @@ keeps {w} b a n has r k e = record { is = λ L h. ap (λ (x : Resized). outcomeO
     choose true = refl
     choose false = refl
 
-    go : (L : Layout) → Here (shape w) b L → Dec (has ≡ 0) → outcomeOf (keptAs a has n) b ≡ resizedBy (shape w) keeping b (a .0) n L
-    go L h (yes z) = rw (eq-eqb has 0 z) (sym (by-nowhere (shape w) b (a .0) n L keeping (k .none z L h)))
+    go : (L : Layout) → Here (shape w) b L → Dec (has ≡ 0) → outcomeOf (keptAs a has n) b ≡ heapResized (shape w) keeping b (a .0) n L
+    go L h (yes z) = rw (eq-eqb has 0 z) (sym (heap-nowhere (shape w) b (a .0) n L keeping (k .none z L h)))
     go L h (no z) = rw (ne-eqb has 0 z, by-live w b (a .0) n L (λ f. z (k .answer L h ∙ ap (capacity (shape w)) f)) keeping, sym (k .answer L h)) (choose (leb n has))

@@ -10,7 +10,8 @@ use Rattle.model.specs.Layout.{Layout}
 use Rattle.model.specs.Sound.{Here}
 use Rattle.model.specs.Rules.{thing, find}
 use Rattle.model.specs.Refusals.{notLive, noRoom}
-use Rattle.model.specs.Calls.{Way, Outcome, refused, granted, resizedBy}
+use Rattle.model.specs.Calls.{Way, Outcome, refused, granted}
+use Rattle.model.specs.inner.Ways.{heapResized}
 use Rattle.resizing.specs.declared.resize.Resized.{Resized}
 use Rattle.resizing.specs.declared.resize.Resized.the-variants.{To, NotLive, NoRoom}
 use Rattle.engine.specs.Ready.{Ready}
@@ -31,6 +32,6 @@ outcomeOf NoRoom c = refused c noRoom
 abbrev pub keptAs : Address → ℕ → ℕ → Resized
 keptAs a has n = cond (eqb has 0) NotLive (cond (leb n has) (To a) NoRoom)
 
--- the record at a resized by one way of resize
+-- the record at a resized by one way of resize, on the heap's own bytes
 pub record ByWay (w : ℕ) (v : Way) (b : List ℕ) (a n : ℕ) (r : Resized) (c : List ℕ) : Type 0 where
-  pub is : (L : Layout) → Here (shape w) b L → outcomeOf r c ≡ resizedBy (shape w) v b a n L
+  pub is : (L : Layout) → Here (shape w) b L → outcomeOf r c ≡ heapResized (shape w) v b a n L

@@ -8,11 +8,12 @@ use lib.ListN.{length, take, drop}
 use Rattle.words.specs.Width.{Width}
 use Rattle.model.specs.Shape.{shape, leastFree, endOf}
 use Rattle.model.specs.Layout.{Block, Layout}
-use Rattle.model.specs.Sound.{Here, Sound}
+use Rattle.model.specs.Sound.{heapOf, HereIn, SoundIn}
 use Rattle.model.specs.Rules.{Found, block, thing, nothing, find, shownOf}
 use Rattle.model.specs.Reading.{theEnd, Statistics, Step, row, rowsFrom, table, ended, step}
 use Rattle.model.specs.Refusals.{notLive}
 use Rattle.model.specs.Calls.{Told, Lent, Opened, found, LooksUp, Steps, Counts, Tabulates}
+use Rattle.model.proofs.pictures.Fronts.{own-ends}
 use Rattle.model.proofs.walks.Steps.{step-rises, step-stays}
 use Rattle.serving.specs.Counting.{rowsOf, TableTold}
 use Rattle.serving.specs.Lookup.{PartTold, RefusalTold}
@@ -62,7 +63,7 @@ module _ (w : ℕ) where
 -- a step's answer, from its contract alone: what a loop over the walk needs to end
 module _ {w : ℕ} (wd : Width w) (b : List ℕ) (at : ℕ) (r : Told Step) (c : Steps (shape w) b at r) where
   -- what a refused step does not answer, and a step on a sound heap answers where P holds of it
-  told-not : (P : Type 0) → (r .answer ≡ ended (shape w) at → ⊥) → ((L : Layout) → Here (shape w) b L → r .answer ≡ step (shape w) at L → P) → (P → ⊥) → ⊥
+  told-not : (P : Type 0) → (r .answer ≡ ended (shape w) at → ⊥) → ((L : Layout) → HereIn (shape w) b L → r .answer ≡ step (shape w) at L → P) → (P → ⊥) → ⊥
   told-not P k f n = lent (λ l. opened l (λ o. sound l o (λ s. n (f (s .layout) (s .here) (ap (λ (x : Told Step). x .answer) (c .sound l (s .layout) (s .here)))))))
     where
       lent : (Lent (shape w) b → ⊥) → ⊥
@@ -71,18 +72,18 @@ module _ {w : ℕ} (wd : Width w) (b : List ℕ) (at : ℕ) (r : Told Step) (c :
       opened : Lent (shape w) b → (Opened (shape w) b → ⊥) → ⊥
       opened l m = k (ap (λ (x : Told Step). x .answer) (c .two l m))
 
-      sound : Lent (shape w) b → Opened (shape w) b → (Sound (shape w) b → ⊥) → ⊥
+      sound : Lent (shape w) b → Opened (shape w) b → (SoundIn (shape w) b → ⊥) → ⊥
       sound l o m = k (ap (λ (x : Told Step). x .answer) (c .three l o m))
 
   -- a step that answers a block goes on by the least block at least, and not past the end
   pub goes-on : (r .answer .kind ≡ theEnd → ⊥) → (at + leastFree (shape w) ≤ r .answer .next) × (r .answer .next ≤ endOf (length b))
   goes-on n = (held (at + leastFree (shape w)) (r .answer .next) (λ z. z .0), held (r .answer .next) (endOf (length b)) (λ z. z .1))
     where
-      rises : (L : Layout) → Here (shape w) b L → r .answer ≡ step (shape w) at L → (at + leastFree (shape w) ≤ r .answer .next) × (r .answer .next ≤ endOf (length b))
+      rises : (L : Layout) → HereIn (shape w) b L → r .answer ≡ step (shape w) at L → (at + leastFree (shape w) ≤ r .answer .next) × (r .answer .next ≤ endOf (length b))
       rises L h e =
-          let z = step-rises wd (endOf (length b)) L at (h .valid) (λ k. n (ap (λ (s : Step). s .kind) e ∙ k)) in
+          let z = step-rises wd (endOf (length (heapOf (shape w) b))) L at (h .here .valid) (λ k. n (ap (λ (s : Step). s .kind) e ∙ k)) in
           let m : r .answer .next ≡ step (shape w) at L .next = ap (λ (s : Step). s .next) e in
-          (omega (arith, z .0, m), omega (arith, z .1, m))
+          (omega (arith, z .0, m), omega (arith, z .1, m, own-ends (shape w) b L h, h .ended .1))
 
       held : (x y : ℕ) → ((at + leastFree (shape w) ≤ r .answer .next) × (r .answer .next ≤ endOf (length b)) → x ≤ y) → x ≤ y
       held x y f = go (decLe x y)

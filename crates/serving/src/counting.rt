@@ -1,4 +1,5 @@
 // Statistics, and the table of classes.
+use ending::heap_of;
 use examining::Verdict;
 use examining::examine;
 use examining::refusal_number;
@@ -34,7 +35,7 @@ pub fn statistics(w: usize, h: &[u8]) -> Counted
             }
         }
         Verdict::Fine => {
-            let s = count(w, h);
+            let s = count(w, heap_of(w, h));
             Counted {
                 statistics: s,
                 refusal: 0,
@@ -51,6 +52,6 @@ pub fn class_table(w: usize, h: &[u8]) -> [[u64; 3]; MOST_CLASSES]
     let v = examine(w, h);
     match v {
         Verdict::Unfit(_) => [[0u64; 3]; MOST_CLASSES],
-        Verdict::Fine => tabulate(w, h),
+        Verdict::Fine => tabulate(w, heap_of(w, h)),
     }
 }

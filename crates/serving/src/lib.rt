@@ -6,6 +6,8 @@ pub mod recovery;
 pub mod resize;
 pub mod walking;
 
+use ending::may_end;
+use ending::stored_end;
 use engine::allocate as taking;
 use engine::free as giving;
 use examining::Refusal;
@@ -15,6 +17,7 @@ use examining::examine_for;
 use examining::is_lent;
 use model::Address;
 use model::MAGIC_BYTES;
+use model::Position;
 use model::magic;
 use words::word;
 ghost use mathlib.Core.Path.{_≡_};
@@ -29,10 +32,10 @@ pub enum Answer {
     Refused(Refusal),
 }
 
-// Opens a heap in a buffer that holds none yet.
-pub fn initialise(w: usize, h: &mut [u8]) -> Answer
+// Opens a heap that ends at `end`, in a buffer that holds none yet.
+pub fn initialise(w: usize, h: &mut [u8], end: Position) -> Answer
     requires { ⌜ Width w ⌝ }
-    ensures { λ r. ⌜ Initialises (shape w) (now (h .entry)) (outcome r (now (h .exit))) ⌝ }
+    ensures { λ r. ⌜ Initialises (shape w) (now (h .entry)) (end .0) (outcome r (now (h .exit))) ⌝ }
 {
     if !is_lent(w, h) {
         return Answer::Refused(Refusal::BadLength);
@@ -40,7 +43,11 @@ pub fn initialise(w: usize, h: &mut [u8]) -> Answer
     if word(MAGIC_BYTES, h, 0) == magic(w) {
         return Answer::Refused(Refusal::AlreadyOpened);
     }
-    fresh::lay(w, h);
+    let e = end.0;
+    if !may_end(w, h.len(), end) {
+        return Answer::Refused(Refusal::BadEnd);
+    }
+    fresh::lay(w, &mut h[0..e]);
     Answer::Granted(Address(0))
 }
 
@@ -75,7 +82,7 @@ pub fn allocate(w: usize, h: &mut [u8], n: usize) -> Answer
     match v {
         Verdict::Unfit(k) => Answer::Refused(k),
         Verdict::Fine => {
-            let t = taking::allocate(w, h, n);
+            let t = growing::allocate(w, h, n);
             granted_or_not(t)
         }
     }
@@ -90,7 +97,8 @@ pub fn free(w: usize, h: &mut [u8], a: Address) -> Answer
     match v {
         Verdict::Unfit(k) => Answer::Refused(k),
         Verdict::Fine => {
-            let done = giving::free(w, h, a);
+            let end = stored_end(w, h).0;
+            let done = giving::free(w, &mut h[0..end], a);
             if done {
                 return Answer::Granted(Address(0));
             }

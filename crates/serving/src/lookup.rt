@@ -1,4 +1,5 @@
 // The payload at a live address, as that very part of the lent heap.
+use ending::heap_of;
 use examining::Refusal;
 use examining::Verdict;
 use examining::examine;
@@ -28,7 +29,7 @@ fn held_at(w: usize, h: &[u8], a: Address) -> Held
             }
         }
         Verdict::Fine => {
-            let n = shown(w, h, a);
+            let n = shown(w, heap_of(w, h), a);
             if n == 0 {
                 let k = refusal_number(Refusal::NotLive);
                 return Held {

@@ -1,4 +1,5 @@
 // The sweep: pages with no live record come back as free space.
+use ending::stored_end;
 use examining::Refusal;
 use examining::Verdict;
 use examining::examine;
@@ -22,7 +23,8 @@ pub fn sweep(w: usize, h: &mut [u8]) -> Swept
     match v {
         Verdict::Unfit(k) => Swept::Refused(k),
         Verdict::Fine => {
-            let count = sweeping::sweep(w, h);
+            let end = stored_end(w, h).0;
+            let count = sweeping::sweep(w, &mut h[0..end]);
             Swept::Pages(count)
         }
     }

@@ -1,5 +1,7 @@
 // Resize, way by way: where the record stands, or elsewhere, or as it is. The crate `trying` tries them in turn.
 use crate::Answer;
+use ending::heap_of;
+use ending::stored_end;
 use examining::Refusal;
 use examining::Verdict;
 use examining::examine_for;
@@ -22,7 +24,7 @@ fn resized_or_not(t: sizing::Resized) -> Answer
     }
 }
 
-// Makes the record at a one of n bytes where it stands, or says 6: then it cannot stay.
+// Makes the record at a one of n bytes where it stands, or says 6: then it cannot stay. The heap does not grow.
 pub fn resize_in_place(w: usize, h: &mut [u8], a: Address, n: usize) -> Answer
     requires { ⌜ Width w ⌝ }
     ensures { λ r. ⌜ ResizesInPlace (shape w) (now (h .entry)) (a .0) n (outcome r (now (h .exit))) ⌝ }
@@ -31,13 +33,14 @@ pub fn resize_in_place(w: usize, h: &mut [u8], a: Address, n: usize) -> Answer
     match v {
         Verdict::Unfit(k) => Answer::Refused(k),
         Verdict::Fine => {
-            let t = sizing::stay(w, h, a, n);
+            let end = stored_end(w, h).0;
+            let t = sizing::stay(w, &mut h[0..end], a, n);
             resized_or_not(t)
         }
     }
 }
 
-// Makes the record at a one of n bytes elsewhere, always, or says 6: then an allocation of n bytes finds nothing.
+// Makes the record at a one of n bytes elsewhere, always, or says 6: then an allocation of n bytes finds nothing, and the heap cannot grow for it.
 pub fn relocate(w: usize, h: &mut [u8], a: Address, n: usize) -> Answer
     requires { ⌜ Width w ⌝ }
     ensures { λ r. ⌜ Moves (shape w) (now (h .entry)) (a .0) n (outcome r (now (h .exit))) ⌝ }
@@ -46,7 +49,7 @@ pub fn relocate(w: usize, h: &mut [u8], a: Address, n: usize) -> Answer
     match v {
         Verdict::Unfit(k) => Answer::Refused(k),
         Verdict::Fine => {
-            let t = sizing::relocate(w, h, a, n);
+            let t = growing::relocate(w, h, a, n);
             resized_or_not(t)
         }
     }
@@ -61,7 +64,7 @@ pub fn keep(w: usize, h: &[u8], a: Address, n: usize) -> Answer
     match v {
         Verdict::Unfit(k) => Answer::Refused(k),
         Verdict::Fine => {
-            let t = sizing::keep(w, h, a, n);
+            let t = sizing::keep(w, heap_of(w, h), a, n);
             resized_or_not(t)
         }
     }

@@ -1,4 +1,5 @@
 // A walk over the blocks, by value: each step hands the next walk back with its answer.
+use ending::heap_of;
 use examining::Verdict;
 use examining::examine;
 use examining::refusal_number;
@@ -52,7 +53,7 @@ impl Walk {
                 }
             }
             Verdict::Fine => {
-                let b = meet(w, h, at);
+                let b = meet(w, heap_of(w, h), at);
                 let next = Position(at.0 + b.size);
                 Step {
                     block: b,

@@ -3,13 +3,14 @@ use Prim.Native.Nat.{ℕ, _+_, _*_, _^_, _≤_, _<_}
 use mathlib.Core.Path.{_≡_, refl, sym, subst}
 use mathlib.Core.List.{List}
 use native.Mathlib.Omega.{arith}
-use lib.ListN.{length, List·getD-eq-default}
+use lib.ListN.{length, take, List·getD-eq-default}
+use lib.Seq.{length-take-le}
 use Rattle.words.specs.Width.{Width}
 use Rattle.words.specs.Word.{wordAt, Bytes}
 use Rattle.model.specs.Shape.{shape, hand, itemSize, endOf, start}
 use Rattle.model.specs.Parts.{magicBytes, firstItemAt}
 use Rattle.model.specs.Layout.{Slot, Block}
-use Rattle.model.specs.Sound.{Sound}
+use Rattle.model.specs.Sound.{Here, Sound, storedEnd, SoundIn}
 use Rattle.model.specs.Calls.{Opened}
 use Rattle.model.proofs.Sizes.{per-page-bound}
 use Rattle.model.proofs.blocks.Blocks.{le-ends}
@@ -23,6 +24,17 @@ use Rattle.reading.proofs.ReadingLaws.{page-room, going-start}
 
 pub walk-first : {w : ℕ} → Width w → (b : List ℕ) (p : ℕ) → p ≡ start (shape w) → Sound (shape w) b → WalkAt w b p
 walk-first wd b p e s = going-start (λ (l : List Block). tt) wd b p e s tt refl
+
+-- the part of a buffer up to the end e that its heap names: so many bytes, sound as a heap by itself, and no further than a heap there can end
+module _ {w : ℕ} {b : List ℕ} (s : SoundIn (shape w) b) {e : ℕ} (f : e ≡ storedEnd (shape w) b) where
+  pub part-length : e ≡ length (take e b)
+  part-length = sym (length-take-le e b (omega (arith, s .here .ended .1, f)))
+
+  pub part-sound : Sound (shape w) (take e b)
+  part-sound = record { layout = s .layout; here = subst (λ (x : ℕ). Here (shape w) (take x b) (s .layout)) (sym f) (s .here .here) }
+
+  pub part-within : endOf (length (take e b)) ≤ endOf (length b)
+  part-within = omega (arith, s .here .ended .1, f, part-length)
 
 -- the data area begins before it ends
 pub area : (w : ℕ) (b : List ℕ) → Sound (shape w) b → start (shape w) ≤ endOf (length b)

@@ -1,4 +1,4 @@
-// A report on a heap, for service staff: the check's answer, and of a sound heap its statistics, classes, blocks, live payloads and a map.
+// A report on a heap, for service staff: the check's answer, and of a sound heap its end, statistics, classes, blocks, live payloads and a map.
 // The heap is checked once; every later part stands on that answer and reads by one walk.
 pub mod blocks;
 pub mod counts;
@@ -13,6 +13,7 @@ use crate::map::write_map;
 use crate::payloads::write_payloads;
 use crate::text::write;
 use crate::text::write_number;
+use ending::stored_end;
 use examining::Refusal;
 use examining::Verdict;
 use examining::examine;
@@ -20,14 +21,17 @@ use examining::refusal_number;
 use model::HAND;
 use model::MAGIC_BYTES;
 use model::MOST_BYTES;
+use model::Position;
 use model::WIDE;
+use model::end_of;
+use model::grows;
 use model::magic;
 use words::word;
 ghost use mathlib.Core.Path.{_≡_};
-ghost use Prim.Native.Nat.{_+_};
+ghost use Prim.Native.Nat.{_+_, _≤_};
 ghost use lib.ListN.{length};
 ghost use Rattle.words.specs.Width.{Width};
-ghost use Rattle.model.specs.Shape.{shape, wide, hand};
+ghost use Rattle.model.specs.Shape.{shape, wide, hand, endOf};
 ghost use Rattle.model.specs.Sound.{Sound};
 ghost use Rattle.model.specs.Calls.{Opened};
 
@@ -54,6 +58,7 @@ fn write_name(k: Refusal) {
         Refusal::NotLive => write(b" not live\n"),
         Refusal::NoRoom => write(b" no room\n"),
         Refusal::AlreadyOpened => write(b" already opened\n"),
+        Refusal::BadEnd => write(b" bad end\n"),
     }
 }
 
@@ -75,12 +80,25 @@ fn write_refusal(w: usize, k: Refusal, n: usize) {
     }
 }
 
-// All that is told of a sound heap.
-fn write_sound(w: usize, h: &[u8])
-    requires { ⌜ Width w × Sound (shape w) (now h) ⌝ }
+// Where a heap that may grow ends, and how much further it could in a buffer of n bytes.
+fn write_end(w: usize, end: Position, n: usize)
+    requires { ⌜ end .0 ≤ endOf n ⌝ }
+{
+    if !grows(w) {
+        return;
+    }
+    write_number(b"end ", end.0 as u64);
+    write_number(b"\nroom to grow ", (end_of(n).0 - end.0) as u64);
+    write(b"\n");
+}
+
+// All that is told of a sound heap, in a buffer of n bytes.
+fn write_sound(w: usize, h: &[u8], n: usize)
+    requires { ⌜ Width w × Sound (shape w) (now h) × (endOf (length (now h)) ≤ endOf n) ⌝ }
 {
     write(b"check: sound\n");
     write_unit(w);
+    write_end(w, end_of(h.len()), n);
     write_statistics(w, h);
     write_classes(w, h);
     write_blocks(w, h);
@@ -94,7 +112,10 @@ pub fn write_report(h: &[u8]) {
     let v = examine(w, h);
     match v {
         Verdict::Unfit(k) => write_refusal(w, k, h.len()),
-        Verdict::Fine => write_sound(w, h),
+        Verdict::Fine => {
+            let end = stored_end(w, h);
+            write_sound(w, &h[..end.0], h.len());
+        }
     }
 }
 

@@ -7,8 +7,8 @@ use lib.ListN.{length}
 use Rattle.words.specs.Width.{Width}
 use Rattle.model.specs.Shape.{shape, itemSize, endOf, start}
 use Rattle.model.specs.Parts.{tagOf, firstItemAt}
-use Rattle.model.specs.Layout.{Slot, idle, held, Use, variable, page, Block, free, used, useSize, sizeOf, ends}
-use Rattle.model.specs.Sound.{AllowedUse, Allowed, AllAllowed}
+use Rattle.model.specs.Layout.{Slot, idle, held, Use, variable, page, Block, free, used, Layout, useSize, sizeOf, ends}
+use Rattle.model.specs.Sound.{AllowedUse, Allowed, AllAllowed, Here, heapOf}
 use Rattle.model.specs.Promises.{OneLayout}
 use Rattle.model.proofs.Sizes.{flags-idle}
 use Rattle.model.proofs.blocks.Blocks.{le-ends}
@@ -63,8 +63,11 @@ module _ {w : ℕ} (wd : Width w) where
       let f : v ≡ u = use-one b p v u (d .0) (a .0) (sym (k .0 .0) ∙ h .0 .0) (k .0 .2) (h .0 .2) in
       ap₂ (λ (x : Use) (xs : List Block). used x ∷ xs) (sym f) (blocks-one b (p + useSize (shape w) u) q r bs cs (h .1) (rw f at (k .1)) (a .1) (d .1) (rw f at e))
 
-  pub one-layout : OneLayout (shape w)
-  one-layout b L M h k =
+  heap-layout : (b : List ℕ) (L M : Layout) → Here (shape w) b L → Here (shape w) b M → L ≡ M
+  heap-layout b L M h k =
       ap₂ (λ (x : List Block) (y : List (List ℕ)). record { blocks = x; lists = y })
       (blocks-one b (start (shape w)) 0 0 (L .blocks) (M .blocks) (here-reads wd b L h) (here-reads wd b M k) (h .valid .allowed) (k .valid .allowed) (h .valid .fills ∙ sym (k .valid .fills)))
       (same-chains wd b (endOf (length b)) 0 (L .lists) (M .lists) (here-chains wd b L h) (here-chains wd b M k))
+
+  pub one-layout : OneLayout (shape w)
+  one-layout b L M h k = heap-layout (heapOf (shape w) b) L M (h .here) (k .here)

@@ -5,6 +5,7 @@ use mathlib.Core.Bool.{true, false, false≢true}
 use mathlib.Core.List.{List}
 use native.Mathlib.Omega.{arith}
 use borrow.Author.Tests.{eqb-true, eq-eqb}
+use Rattle.words.specs.Width.{Width}
 use Rattle.model.specs.Shape.{shape}
 use Rattle.model.specs.Refusals.{noRoom}
 use Rattle.model.specs.Calls.{Outcome, orNext, ResizesInPlace, Moves, Keeps, Resizes}
@@ -33,12 +34,12 @@ stops : (r : Answer) (c : List ℕ) (next : Outcome) → isNoRoom r ≡ false �
 stops (Granted a) c next e = refl
 stops (Refused k) c next e = rw e refl
 
-module _ (w : ℕ) (b : List ℕ) (a n : ℕ) (r : Answer) (c : List ℕ) (p : ResizesInPlace (shape w) b a n (outcome r c)) where
+module _ {w : ℕ} (wd : Width w) (b : List ℕ) (a n : ℕ) (r : Answer) (c : List ℕ) (p : ResizesInPlace (shape w) b a n (outcome r c)) where
   pub first-gives : isNoRoom r ≡ false → Resizes (shape w) b a n (outcome r c)
   first-gives e =
       let o = outcome r c in
       subst (λ (x : Outcome). Resizes (shape w) b a n x) (stops r c (orNext o o) e)
-      (split-gives (shape w) b a n o o o p (λ f. absurd (not-six r c e f)) (λ f. absurd (not-six r c e f)))
+      (split-gives wd b a n o o o p (λ f. absurd (not-six r c e f)) (λ f. absurd (not-six r c e f)))
 
   module _ (e : isNoRoom r ≡ true) (s : Answer) (d : List ℕ) (q : Moves (shape w) c a n (outcome s d)) where
     second : Moves (shape w) (outcome r c .heap) a n (outcome s d)
@@ -48,10 +49,10 @@ module _ (w : ℕ) (b : List ℕ) (a n : ℕ) (r : Answer) (c : List ℕ) (p : R
     second-gives f =
         let o = outcome s d in
         subst (λ (x : Outcome). Resizes (shape w) b a n x) (goes-on r c (orNext o o) e ∙ stops s d o f)
-        (split-gives (shape w) b a n (outcome r c) o o p (λ _. second) (λ _ g. absurd (not-six s d f g)))
+        (split-gives wd b a n (outcome r c) o o p (λ _. second) (λ _ g. absurd (not-six s d f g)))
 
     pub third-gives : isNoRoom s ≡ true → (t : Answer) → Keeps (shape w) d a n (outcome t d) → Resizes (shape w) b a n (outcome t d)
     third-gives f t k =
         let o = outcome t d in
         subst (λ (x : Outcome). Resizes (shape w) b a n x) (goes-on r c (orNext (outcome s d) o) e ∙ goes-on s d o f)
-        (split-gives (shape w) b a n (outcome r c) (outcome s d) o p (λ _. second) (λ _ _. subst (λ (x : List ℕ). Keeps (shape w) x a n o) (sym (heap-of s d)) k))
+        (split-gives wd b a n (outcome r c) (outcome s d) o p (λ _. second) (λ _ _. subst (λ (x : List ℕ). Keeps (shape w) x a n o) (sym (heap-of s d)) k))

@@ -1,15 +1,13 @@
 -- Blocks in the middle of a heap, as code meets them: what can be read around them, and what writing others in their place gives.
-use Prim.Native.Nat.{ℕ, _+_, _-_, _*_, _^_, _≤_, _<_}
+use Prim.Native.Nat.{ℕ, _+_, _-_, _*_, _≤_, _<_}
 use mathlib.Core.Path.{_≡_, refl, sym, ap, subst, _∙_}
-use mathlib.Core.Bool.{cond}
 use mathlib.Core.List.{List, [], _∷_, _++_}
 use mathlib.Core.Logic.{_⊎_, inl, inr, ⊎-elim}
 use native.Mathlib.Omega.{arith}
 use native.Mathlib.Decide.{ℕ-discrete}
 use lib.ListN.{length}
-use lib.Dec.{eqb}
 use borrow.Author.Tests.{eq-eqb, ne-eqb}
-use Rattle.words.specs.Word.{wordAt, put, Bytes}
+use Rattle.words.specs.Word.{wordAt, Bytes}
 use Rattle.model.specs.Shape.{Shape, start, endOf}
 use Rattle.model.specs.Parts.{firstFreeAt}
 use Rattle.model.specs.Picture.{Word, Shows, draw}
@@ -60,6 +58,10 @@ module _ (S : Shape) where
   link-of p [] x h = refl
   link-of p (free s ∷ bs) x h = link-of (p + sizeOf S (free s)) bs p (omega arith) ∙ rw (ne-eqb p 0 (λ e. omega arith)) refl
   link-of p (used u ∷ bs) x h = link-of (p + sizeOf S (used u)) bs x (omega arith)
+
+  -- the link to what comes behind `pre` stands in its last free block, or in the header
+  pub link-place : (pre : List Block) (prev : ℕ) → lastFree S (start S) pre 0 ≡ prev → linkOf S prev ≡ linkAt S (start S) pre (firstFreeAt S)
+  link-place pre prev e = ap (λ (x : ℕ). linkOf S x) (sym e) ∙ link-of (start S) pre 0 (omega arith)
 
   -- the link to what comes after blocks, read
   link-read : (ls : List (List ℕ)) (b : List ℕ) (p prev next : ℕ) (bs : List Block) (d : ℕ) → wordAt (S .word) b d ≡ firstFree S p bs next → Shows (S .word) b (blockWords S ls p prev next bs)
@@ -133,7 +135,7 @@ module _ (S : Shape) where
     post-shown = shows-right (S .word) b (blockWords S ls p prev next old) (blockWords S ls q (lastFree S p old prev) 0 post) rest-shown
 
     link-is : linkOf S prev ≡ linkAt S (start S) pre (firstFreeAt S)
-    link-is = ap (λ (x : ℕ). linkOf S x) (sym (m .places .before)) ∙ link-of (start S) pre 0 (omega arith)
+    link-is = link-place pre prev (m .places .before)
 
     -- what the link to the blocks says
     pub link-shown : wordAt (S .word) b (linkOf S prev) ≡ firstFree S p old next

@@ -83,7 +83,7 @@ module _ (S : Shape) where
       ))
 
   -- the first part, once the link from it is written
-  front-put : (end : ℕ) (ls : List (List ℕ)) (pre : List Block) (next v : ℕ) (b : List ℕ) → length ls ≡ S .classes → AllAllowed S pre → ends S (start S) pre ≤ length b → v < 256 ^ S .word
+  pub front-put : (end : ℕ) (ls : List (List ℕ)) (pre : List Block) (next v : ℕ) (b : List ℕ) → length ls ≡ S .classes → AllAllowed S pre → ends S (start S) pre ≤ length b → v < 256 ^ S .word
       → Shows (S .word) b (front end ls pre next) → Shows (S .word) (put (S .word) b (linkAt S (start S) pre (firstFreeAt S)) v) (front end ls pre v)
   unfolding front Shows
   front-put end ls pre next v b e h r f s =
@@ -101,7 +101,7 @@ module _ (S : Shape) where
             (rl .1),
       )
 
-  front-out : (end : ℕ) (ls : List (List ℕ)) (pre : List Block) (next i : ℕ) → Outside (S .word) i (front end ls pre next)
+  pub front-out : (end : ℕ) (ls : List (List ℕ)) (pre : List Block) (next i : ℕ) → Outside (S .word) i (front end ls pre next)
       → linkAt S (start S) pre (firstFreeAt S) ≤ i → i < linkAt S (start S) pre (firstFreeAt S) + S .word → ⊥
   unfolding front Outside
   front-out end ls pre next i o =

@@ -4,14 +4,18 @@ use mathlib.Core.Path.{_≡_, refl, sym, subst, _∙_}
 use mathlib.Core.List.{List, [], _∷_}
 use mathlib.Core.Logic.{inl, inr}
 use native.Mathlib.Omega.{arith}
-use lib.ListN.{length, getD}
+use native.Mathlib.Decide.{decLt}
+use lib.ListN.{length, getD, take, List·getD-eq-default}
+use lib.Seq.{getD-take, length-take-le}
 use Rattle.words.proofs.WordLaws.{word-agree}
 use Rattle.model.specs.Shape.{Shape, endOf}
+use Rattle.model.specs.Parts.{endAt}
 use Rattle.model.specs.Picture.{Word, Shows}
 use Rattle.model.specs.Layout.{Layout, words}
-use Rattle.model.specs.Sound.{Valid, Here}
+use Rattle.model.specs.Sound.{Valid, Here, MayEnd, storedEnd, heapOf, HereIn}
 use Rattle.model.specs.Live.{_∈_, Payload, live}
 use Rattle.model.specs.Promises.{Written}
+use Rattle.model.proofs.pictures.Fronts.{own-start}
 use Rattle.model.proofs.lives.Payloads.{in-area, no-word-inside}
 
 -- a picture shows in bytes that agree where its words stand
@@ -31,5 +35,31 @@ kept-here S b d L h e w =
           (λ v m i l u. w i (λ x k lo hi. no-word-inside S (endOf (length b)) L (h .valid) x k v m (omega arith) (omega arith))) (h .shown));
     }
 
-pub written-here : (S : Shape) (b d : List ℕ) (L : Layout) → Here S b L → Written S b d → Here S d L
-written-here S b d L h w = kept-here S b d L h (w .0) (w .1 L h)
+-- writes inside live payloads, and behind the end, leave a buffer its heap's layout and its end
+module _ (S : Shape) (b d : List ℕ) (L : Layout) (h : HereIn S b L) (w : Written S b d) where
+  abbrev Dead : ℕ → Type 0
+  Dead i = (x : Payload) → x ∈ live S L → x .address ≤ i → i < x .address + x .size → ⊥
+
+  pub written-end : storedEnd S d ≡ storedEnd S b
+  written-end =
+      word-agree (S .word) d b (endAt S)
+      (λ i l m. w .1 L h i (omega (arith, m, own-start S b L h)) (λ x k lo hi. omega (arith, in-area S (endOf (length (heapOf S b))) L (h .here .valid) x k .0)))
+
+  written-heap : (i : ℕ) → Dead i → getD (heapOf S d) i 0 ≡ getD (heapOf S b) i 0
+  written-heap i o = rw written-end (go (decLt i (storedEnd S b)))
+    where
+      go : Dec (i < storedEnd S b) → getD (take (storedEnd S b) d) i 0 ≡ getD (take (storedEnd S b) b) i 0
+      go (yes l) = getD-take (storedEnd S b) d i 0 l ∙ w .1 L h i l o ∙ sym (getD-take (storedEnd S b) b i 0 l)
+      go (no l) =
+          let e = h .ended .1 in
+          List·getD-eq-default (take (storedEnd S b) d) 0 {n = i} (omega (arith, l, e, w .0, length-take-le (storedEnd S b) d (omega (arith, e, w .0))))
+          ∙ sym (List·getD-eq-default (take (storedEnd S b) b) 0 {n = i} (omega (arith, l, e, length-take-le (storedEnd S b) b (omega (arith, e)))))
+
+  pub written-here : HereIn S d L
+  written-here =
+      let e = h .ended .1 in
+      let k : length (heapOf S d) ≡ length (heapOf S b) = rw written-end (length-take-le (storedEnd S b) d (omega (arith, e, w .0)) ∙ sym (length-take-le (storedEnd S b) b (omega (arith, e)))) in
+      record {
+        ended = subst (λ (x : ℕ). MayEnd S (length d) x) (sym written-end) (subst (λ (n : ℕ). MayEnd S n (storedEnd S b)) (sym (w .0)) (h .ended));
+        here = kept-here S (heapOf S b) (heapOf S d) L (h .here) k written-heap;
+      }

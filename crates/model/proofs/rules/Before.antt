@@ -10,7 +10,7 @@ use Rattle.model.specs.Picture.{Word, Shows}
 use Rattle.model.specs.Shape.{Shape, allOffered, start, index, itemSize, itemCapacity, itemShown, addressOf, offsetOf, endOf}
 use Rattle.model.specs.Parts.{firstItemAt}
 use Rattle.model.specs.Layout.{Slot, idle, held, Use, variable, page, Block, free, used, Layout, headOf, ifFree, useSize, sizeOf, ends, firstFree, header, slotWords, useWords, own, blockWords, headWords, fixedLow, fixedHigh, words}
-use Rattle.model.specs.Sound.{times, Allowed, AllowedUse, AllAllowed, idleSlots, idleIn, idleItems, Valid, Here}
+use Rattle.model.specs.Sound.{times, Allowed, AllowedUse, AllAllowed, idleSlots, idleIn, idleItems, Valid, Here, heapOf, HereIn}
 use Rattle.model.specs.Live.{Payload, slotsLive, useLive, liveFrom}
 use Rattle.model.specs.Promises.{SoundBefore, LayoutBefore}
 use Rattle.model.proofs.Good.{Good}
@@ -145,8 +145,11 @@ module _ (S : Shape) where
           shown = subst (λ (ws : List Word). Shows (S .word) b ws) (all-words (endOf (length b)) L) (h .shown);
         }
 
+    in-before : (b : List ℕ) (L : Layout) → HereIn T b L → HereIn S b L
+    in-before b L h = record { ended = h .ended; here = here-before (heapOf S b) L (h .here) }
+
     pub layout-before : LayoutBefore S
-    layout-before b L h = (here-before b L h, live-from (start S) (L .blocks))
+    layout-before b L h = (in-before b L h, live-from (start S) (L .blocks))
 
     pub sound-before : SoundBefore S
-    sound-before b s = record { layout = s .layout; here = here-before b (s .layout) (s .here) }
+    sound-before b s = record { layout = s .layout; here = in-before b (s .layout) (s .here) }

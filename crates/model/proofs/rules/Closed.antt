@@ -9,12 +9,12 @@ use native.Mathlib.Decide.{decLe, decLt, ℕ-discrete}
 use lib.ListN.{length, getD, set, List·getD-eq-default}
 use lib.Seq.{getD-set-same, getD-set-other}
 use borrow.Author.Tests.{le-leb, lt-leb, eq-eqb, ne-eqb}
-use Rattle.model.specs.Shape.{Shape, largestItem, start, classOf, needOf, addressOf, itemAt}
+use Rattle.model.specs.Shape.{Shape, largestItem, start, endOf, classOf, needOf, addressOf, itemAt}
 use Rattle.model.specs.Layout.{Block, Layout}
 use Rattle.model.specs.Sound.{times, Valid}
-use Rattle.model.specs.Rules.{Spot, Made, Found, block, thing, nothing, paged, allocate, find, freed, reshaped, stays}
+use Rattle.model.specs.Rules.{Spot, Made, Found, block, thing, nothing, paged, allocate, longer, find, freed, reshaped, stays}
 use Rattle.model.specs.Live.{_∈_, Payload, live}
-use Rattle.model.specs.Refusals.{notLive, noRoom}
+use Rattle.model.specs.Refusals.{notLive}
 use Rattle.model.specs.Calls.{Outcome, GoodSize, found, without}
 use Rattle.model.specs.Promises.{Call, initialising, checking, allocating, freeing, resizing, resizingBy, sweeping, Waits}
 use Rattle.model.proofs.Good.{Good}
@@ -22,6 +22,7 @@ use Rattle.model.proofs.rules.Makings.{Makes, nothingFits, listedItem, 
 use Rattle.model.proofs.rules.Sized.{good, bad, good-or-bad}
 use Rattle.model.proofs.rules.OnLayouts.{Done, refuse, grant, sizedOn, resizedOn, resizedByOn, doing}
 use Rattle.model.proofs.rules.ResizeWays.{Went, nowhere, inPlace, elsewhere, asItIs, noWay, went, went-by}
+use Rattle.model.proofs.rules.Ready.{Ready, own, grew, Runs, noneFits, ranOn, runs}
 use Rattle.model.proofs.items.Pop.{items-found}
 use Rattle.model.proofs.lives.ItemLives.{item-adds}
 
@@ -106,10 +107,15 @@ module _ (S : Shape) where
     stayed-waits : (n : ℕ) (f : Found) (L M : Layout) → stays S n f L ≡ some M → Waits c o L → Waits c o M
     stayed-waits n f L M e h = subst (λ (ls : List (List ℕ)). o ∈ getD ls c []) (sym (subst (λ (x : Option Layout). Lists L x) e (stays-lists n f L))) h
 
-    went-waits : {a n : ℕ} {L : Layout} {x : Outcome} {d : Done} → Went S [] a n L x d → 1 ≤ n → Waits c o L → Waits c o (d .layout)
+    -- where an allocation runs, the lists are as they were
+    ready-waits : {b : List ℕ} {n : ℕ} {L : Layout} {h : List ℕ} {G : Layout} → Ready S b n L h G → Waits c o L → Waits c o G
+    ready-waits own h = h
+    ready-waits (grew e l) h = h
+
+    went-waits : {b : List ℕ} {a n : ℕ} {L : Layout} {x : Outcome} {d : Done} → Went S b a n L x d → 1 ≤ n → Waits c o L → Waits c o (d .layout)
     went-waits (nowhere e) one h = h
-    went-waits {a} {n} {L} (inPlace i M s) one h = stayed-waits n (find S a L) L M s h
-    went-waits {a} {n} {L} (elsewhere i m k) one h = without-waits a c o (m .layout) (made-waits n L m one k h)
+    went-waits {b} {a} {n} {L} (inPlace i M s) one h = stayed-waits n (find S a L) L M s h
+    went-waits {b} {a} {n} {L} (elsewhere i y G r m k) one h = without-waits a c o (m .layout) (made-waits n G m one k (ready-waits r h))
     went-waits (asItIs i k) one h = h
     went-waits (noWay i) one h = h
 
@@ -120,21 +126,21 @@ module _ (S : Shape) where
         go (yes g) = rw (good S n g) (x (g .0))
         go (no g) = rw (bad S n g) h
 
-    pub doing-waits : (q : Call) (L : Layout) → (q ≡ sweeping → ⊥) → Waits c o L → Waits c o (doing S q L .layout)
+    ran-waits : {b : List ℕ} {n : ℕ} {L : Layout} {bytes : List ℕ → Layout → Made → List ℕ} {x : Outcome} {d : Done} → Runs S b n L bytes (λ m. m .layout) x d → 1 ≤ n → Waits c o L → Waits c o (d .layout)
+    ran-waits (noneFits e l) one h = h
+    ran-waits {b} {n} (ranOn y G r m k) one h = made-waits n G m one k (ready-waits r h)
+
+    pub doing-waits : (b : List ℕ) (q : Call) (L : Layout) → ((n : ℕ) → 1 ≤ n → allocate S n (longer S n L) ≡ none → ⊥) → (q ≡ sweeping → ⊥) → Waits c o L → Waits c o (doing S (endOf (length b)) q L .layout)
     unfolding doing
-    doing-waits initialising L z h = h
-    doing-waits checking L z h = h
-    doing-waits (allocating n) L z h = go (allocate S n L) refl
-      where
-        go : (x : Option Made) → allocate S n L ≡ x → Waits c o (doing S (allocating n) L .layout)
-        go none e = rw e (sized-waits n L (refuse noRoom L) (λ one. h) h)
-        go (some m) e = rw e (sized-waits n L (grant (m .at) (m .layout)) (λ one. made-waits n L m one e h) h)
-    doing-waits (freeing a) L z h = go (find S a L) (without-waits a c o L h)
+    doing-waits b (initialising e) L finds z h = h
+    doing-waits b checking L finds z h = h
+    doing-waits b (allocating n) L finds z h = sized-waits n L _ (λ one. ran-waits (runs S b n L (finds n one) (λ y G m. []) (λ m. m .layout)) one h) h
+    doing-waits b (freeing a) L finds z h = go (find S a L) (without-waits a c o L h)
       where
         go : (f : Found) → Waits c o (freed S f L) → Waits c o (found S f (refuse notLive L) (grant 0 (freed S f L)) .layout)
         go nothing k = h
         go (block t) k = k
         go (thing x d j) k = k
-    doing-waits (resizing a n) L z h = sized-waits n L (resizedOn S a n L) (λ one. went-waits (went S [] a n L) one h) h
-    doing-waits (resizingBy v a n) L z h = sized-waits n L (resizedByOn S v a n L) (λ one. went-waits (went-by S [] a n L v) one h) h
-    doing-waits sweeping L z h = absurd (z refl)
+    doing-waits b (resizing a n) L finds z h = sized-waits n L (resizedOn S (endOf (length b)) a n L) (λ one. went-waits (went S b a n L (finds n one)) one h) h
+    doing-waits b (resizingBy v a n) L finds z h = sized-waits n L (resizedByOn S v (endOf (length b)) a n L) (λ one. went-waits (went-by S b a n L (finds n one) v) one h) h
+    doing-waits b sweeping L finds z h = absurd (z refl)

@@ -9,9 +9,9 @@ use lib.Dec.{eqb}
 use Rattle.model.specs.Picture.{Word}
 use Rattle.model.specs.Shape.{wide, allOffered, start, leastFree, itemSize, endOf}
 use Rattle.model.proofs.Sizes.{eight, page-items-bound}
-use Rattle.model.specs.Layout.{Layout, headOf, nextOf, useSize, sizeOf, ends, firstFree, header, slotWords, useWords, own, blockWords, headWords, fixedLow, fixedHigh, words}
+use Rattle.model.specs.Layout.{Layout, headOf, nextOf, useSize, sizeOf, ends, endIn, firstFree, header, slotWords, useWords, own, blockWords, headWords, fixedLow, fixedHigh, words}
 use Rattle.model.specs.Sound.{idleSlots, idleIn}
-use Rattle.model.specs.Rules.{fit, before, inFront, cut, slotTo, useTo, itemTo, fromList, fromPage, anItem, aBlock, allocate, inSlots, findFrom, find, freed, shownOf, shrunk, grown, reshaped, renewed, stays, fresh}
+use Rattle.model.specs.Rules.{fit, before, inFront, extended, cut, slotTo, useTo, itemTo, fromList, fromPage, anItem, aBlock, allocate, growth, inSlots, findFrom, find, freed, shownOf, shrunk, grown, reshaped, renewed, stays, fresh}
 use Rattle.model.specs.Reading.{total, greatest, heldIn, ofBlock, counted}
 use Rattle.model.specs.Sweeping.{emptyPage, idleWith, relinked, relinkedFrom}
 use Rattle.model.specs.Calls.{staying, moving}
@@ -27,15 +27,24 @@ wordIn p (x ∷ xs) = let later = wordIn p xs in cond (eqb p (x .at)) (x .is) la
 word : ℕ → Layout → ℕ
 word p L = wordIn p (words wide 10000 L)
 
--- what a call gives, what it refuses with, and the layout then
+-- what a call gives, what it refuses with, and the layout then; of a heap that ends with its buffer, and of one that may grow up to E
 gives : Call → Layout → ℕ
-gives q L = doing wide q L .address
+gives q L = doing wide (endIn wide L) q L .address
 
 says : Call → Layout → ℕ
-says q L = doing wide q L .refusal
+says q L = doing wide (endIn wide L) q L .refusal
 
 after : Call → Layout → Layout
-after q L = doing wide q L .layout
+after q L = doing wide (endIn wide L) q L .layout
+
+givesIn : ℕ → Call → Layout → ℕ
+givesIn E q L = doing wide E q L .address
+
+saysIn : ℕ → Call → Layout → ℕ
+saysIn E q L = doing wide E q L .refusal
+
+afterIn : ℕ → Call → Layout → Layout
+afterIn E q L = doing wide E q L .layout
 
 -- a fresh heap of n bytes, and that of 10,000 after the calls of the list of figures
 freshOf : ℕ → Layout
@@ -75,13 +84,26 @@ K = after (allocating 30) (freshOf 4800)
 -- (ii), (xi): n calls one after the other by the rule before, each from a number that is `by` more than the one before; two pages of a class that is closed now, with 1 and 2 live; and the same with none live in the first
 inTurn : ℕ → (ℕ → Call) → ℕ → ℕ → Layout → Layout
 inTurn zero q a by L = L
-inTurn (suc n) q a by L = inTurn n q (a + by) by (doing (allOffered wide) (q a) L .layout)
+inTurn (suc n) q a by L = inTurn n q (a + by) by (doing (allOffered wide) (endIn wide L) (q a) L .layout)
 
 Q : Layout
 Q = inTurn 15 freeing 328 264 (inTurn 18 allocating 256 0 H)
 
 Z : Layout
 Z = after (freeing 4288) (after sweeping Q)
+
+-- (v): from 344 in 10,000 bytes, after 300, 16 and a resize to 400; and from 344 in 1,000 after 672
+S1 : Layout
+S1 = afterIn 10000 (allocating 300) (freshOf 344)
+
+S2 : Layout
+S2 = afterIn 10000 (allocating 16) S1
+
+S3 : Layout
+S3 = afterIn 10000 (resizing 320 400) S2
+
+T1 : Layout
+T1 = afterIn 1000 (allocating 672) (freshOf 344)
 
 -- how many bytes a look-up shows
 shown : ℕ → Layout → ℕ
@@ -111,6 +133,9 @@ computed =
     ∷ word 296 Q ∷ gives (allocating 256) Q ∷ word 296 (after (allocating 256) Q) ∷ gives sweeping Q ∷ word 296 (after sweeping Q)
     ∷ gives (resizingBy staying 4288 250) Q ∷ shown 4288 (after (resizingBy staying 4288 250) Q) ∷ gives (resizingBy moving 4288 256) Q ∷ shown 8800 (after (resizingBy moving 4288 256) Q) ∷ word 296 (after (resizingBy moving 4288 256) Q) ∷ word 296 (after (freeing 4288) Q)
     ∷ gives sweeping Z ∷ word 24 (after sweeping Z) ∷ word 312 (after sweeping Z) ∷ gives sweeping (after sweeping Z)
+    ∷ givesIn 10000 (allocating 300) (freshOf 344) ∷ endIn wide S1 ∷ word 24 S1 ∷ givesIn 10000 (allocating 16) S1 ∷ endIn wide S2 ∷ givesIn 10000 (resizing 320 400) S2 ∷ endIn wide S3
+    ∷ givesIn 1000 (allocating 672) (freshOf 344) ∷ endIn wide T1 ∷ saysIn 1000 (allocating 257) T1 ∷ saysIn 1000 (allocating 673) (freshOf 344)
+    ∷ saysIn 10000 (resizingBy staying 320 400) S1
     ∷ counted (C .blocks) .freeBytes ∷ counted (C .blocks) .freeBlocks ∷ counted (C .blocks) .largestFree ∷ counted (C .blocks) .variables ∷ counted (C .blocks) .pages ∷ counted (C .blocks) .items
     ∷ []
 
@@ -138,11 +163,14 @@ expected =
     ∷ 3968 ∷ 8800 ∷ 3968 ∷ 0 ∷ 5040
     ∷ 4288 ∷ 250 ∷ 8800 ∷ 256 ∷ 4232 ∷ 4232
     ∷ 1 ∷ 312 ∷ 4240 ∷ 0
+    ∷ 320 ∷ 632 ∷ 0 ∷ 648 ∷ 4752 ∷ 4760 ∷ 5168
+    ∷ 320 ∷ 1000 ∷ 6 ∷ 6
+    ∷ 6
     ∷ 5568 ∷ 2 ∷ 5248 ∷ 0 ∷ 1 ∷ 1
     ∷ []
 
 figures : computed ≡ expected
-unfolding computed expected wordIn word gives says after shown freshOf inTurn H A B C D E K O R P Q Z emptyPage idleIn idleWith relinked relinkedFrom recovered resizedOn resizedByOn doing headOf nextOf useSize sizeOf ends firstFree header slotWords useWords own blockWords headWords fixedLow fixedHigh words idleSlots fit before inFront cut slotTo useTo itemTo fromList fromPage anItem aBlock allocate inSlots findFrom freed shrunk grown reshaped stays total greatest heldIn ofBlock counted
+unfolding computed expected wordIn word gives says after shown freshOf givesIn saysIn afterIn S1 S2 S3 T1 inTurn H A B C D E K O R P Q Z extended growth emptyPage idleIn idleWith relinked relinkedFrom recovered resizedOn resizedByOn doing headOf nextOf useSize sizeOf ends firstFree header slotWords useWords own blockWords headWords fixedLow fixedHigh words idleSlots fit before inFront cut slotTo useTo itemTo fromList fromPage anItem aBlock allocate inSlots findFrom freed shrunk grown reshaped stays total greatest heldIn ofBlock counted
 figures = refl
 
 -- a page's items take more than 4,096 and at most 4,360 bytes

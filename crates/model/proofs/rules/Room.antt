@@ -16,7 +16,7 @@ use Rattle.model.specs.Layout.{idle, Block, free, used, Layout}
 use Rattle.model.specs.Sound.{idleSlots, Valid}
 use Rattle.model.specs.Rules.{Spot, after, fit, paged, fromList, fromPage, anItem, aBlock, allocate, spotAt}
 use Rattle.model.specs.Live.{_∈_}
-use Rattle.model.specs.Promises.{NoRoom}
+use Rattle.model.specs.Promises.{NothingFits}
 
 -- a rule that gives something does not give nothing
 some-none : {A : Type 0} (x : A) → some x ≡ none → ⊥
@@ -90,19 +90,19 @@ module _ (S : Shape) where
   none-block need L f = rw f refl
 
   -- THE LAW: an allocation finds nothing exactly where there is no room
-  pub no-room : S .offered ≤ S .classes → (end n : ℕ) (L : Layout) → Valid S end L → 1 ≤ n → ((c : ℕ) → 0 < S .perPage c) → (allocate S n L ≡ none) ↔ NoRoom S n L
+  pub no-room : S .offered ≤ S .classes → (end n : ℕ) (L : Layout) → Valid S end L → 1 ≤ n → ((c : ℕ) → 0 < S .perPage c) → (allocate S n L ≡ none) ↔ NothingFits S n L
   unfolding allocate
   no-room few end n L v some-byte per = (there, back (decLe n (largestItem S)))
     where
       small : n ≤ largestItem S → allocate S n L ≡ none → (getD (L .lists) (classOf n) [] ≡ []) × (fit (pageNeed S (classOf n)) (L .blocks) ≡ none)
       small l e = item-none n (classOf n) L (omega (arith, few, v .classes)) (per (classOf n)) (getD (L .lists) (classOf n) []) (rw (le-leb n (largestItem S) l) at e)
 
-      there : allocate S n L ≡ none → NoRoom S n L
+      there : allocate S n L ≡ none → NothingFits S n L
       there e = (
         (λ l. (small l e .0, fit-none (pageNeed S (classOf n)) (L .blocks) (small l e .1))),
         (λ l. fit-none (needOf S n) (L .blocks) (block-none (needOf S n) L (fit (needOf S n) (L .blocks)) (rw (lt-leb n (largestItem S) l) at e))),
       )
 
-      back : Dec (n ≤ largestItem S) → NoRoom S n L → allocate S n L ≡ none
+      back : Dec (n ≤ largestItem S) → NothingFits S n L → allocate S n L ≡ none
       back (yes l) h = rw (le-leb n (largestItem S) l) (none-item n (classOf n) L (h .0 l .0) (none-fits (pageNeed S (classOf n)) (L .blocks) (h .0 l .1)))
       back (no l) h = rw (lt-leb n (largestItem S) (omega arith)) (none-block (needOf S n) L (none-fits (needOf S n) (L .blocks) (h .1 (omega arith))))

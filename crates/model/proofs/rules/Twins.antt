@@ -12,7 +12,7 @@ use borrow.Author.Tests.{le-leb, lt-leb}
 use Rattle.model.specs.Shape.{Shape, start, leastFree, largestItem, itemSize, classOf, needOf, pageNeed, addressOf, offsetOf, itemAt}
 use Rattle.model.specs.Layout.{Slot, idle, held, Use, variable, page, Block, free, used, Layout, useSize, ends}
 use Rattle.model.specs.Sound.{idleSlots}
-use Rattle.model.specs.Rules.{Spot, after, fit, before, inFront, released, Found, block, thing, nothing, behind, orElse, Made, cut, placed, slotTo, useTo, itemTo, pushed, paged, fromList, fromPage, anItem, aBlock, allocate, inSlots, findFrom, find, freed, fresh}
+use Rattle.model.specs.Rules.{Spot, after, fit, before, inFront, released, Found, block, thing, nothing, behind, orElse, Made, cut, placed, slotTo, useTo, itemTo, pushed, paged, fromList, fromPage, anItem, aBlock, allocate, growth, inSlots, findFrom, find, freed, fresh}
 use Rattle.model.specs.Refusals.{noRoom}
 use Rattle.model.specs.Promises.{allocating, freeing}
 use Rattle.model.proofs.items.Items.{size-useTo}
@@ -249,21 +249,23 @@ module _ (S : Shape) where
   find-twins a p (part r (pages c i j ss) k) =
       or-twins (inSlots S a c (p + S .word) ss) nothing (inSlots S a c (p + S .word) ss) nothing (slots-twins a c (p + S .word) ss) (unfold Founds in tt)
 
-  -- two calls answered the same and left twins
-  pub record SameDone (d e : Done) : Type 0 where
+  -- two calls answered the same and left layouts that agree
+  pub record SameDone (Agree : Layout → Layout → Type 0) (d e : Done) : Type 0 where
     pub refusal : d .refusal ≡ e .refusal
     pub address : d .address ≡ e .address
-    pub layouts : TwinLayouts (d .layout) (e .layout)
+    pub layouts : Agree (d .layout) (e .layout)
 
-  pub allocating-twins : (n : ℕ) {L M : Layout} → TwinLayouts L M → (doing S (allocating n) L .refusal ≡ noRoom → ⊥) → SameDone (doing S (allocating n) L) (doing S (allocating n) M)
+  -- an allocation, on twins neither of which has to grow
+  pub allocating-twins : (E F n : ℕ) (L M : Layout) → TwinLayouts L M → growth S E n L ≡ none → ((m : Made) → allocate S n M ≡ some m → growth S F n M ≡ none)
+      → (doing S E (allocating n) L .refusal ≡ noRoom → ⊥) → SameDone TwinLayouts (doing S E (allocating n) L) (doing S F (allocating n) M)
   unfolding doing Mades
-  allocating-twins n {L} {M} w room = go (leb 1 n && leb n (S .most)) refl (allocate S n L) (allocate S n M) refl refl (allocate-twins n w)
+  allocating-twins E F n L M w stop there room = go (leb 1 n && leb n (S .most)) refl (allocate S n L) (allocate S n M) refl refl (allocate-twins n w)
     where
-      go : (y : Bool) → (leb 1 n && leb n (S .most)) ≡ y → (o p : Option Made) → allocate S n L ≡ o → allocate S n M ≡ p → Mades o p → SameDone (doing S (allocating n) L) (doing S (allocating n) M)
+      go : (y : Bool) → (leb 1 n && leb n (S .most)) ≡ y → (o p : Option Made) → allocate S n L ≡ o → allocate S n M ≡ p → Mades o p → SameDone TwinLayouts (doing S E (allocating n) L) (doing S F (allocating n) M)
       go false t o p e f h = rw t (record { refusal = refl; address = refl; layouts = w })
-      go true t none p e f h = absurd (room (rw (t, e) refl))
+      go true t none p e f h = absurd (room (rw (t, stop, e) refl))
       go true t (some m) none e f h = absurd h
-      go true t (some m) (some k) e f h = rw (t, e, f) (record { refusal = refl; address = h .0; layouts = h .1 })
+      go true t (some m) (some k) e f h = rw (t, stop, there k f, e, f) (record { refusal = refl; address = h .0; layouts = h .1 })
 
   pushed-twins : (o c p d : ℕ) {L M : Layout} → TwinLayouts L M → o ≡ p → c ≡ d → TwinLayouts (pushed S c o L) (pushed S d p M)
   pushed-twins o c p d {L} {M} w e f =
@@ -272,11 +274,11 @@ module _ (S : Shape) where
         lists = ap (λ (ls : List (List ℕ)). set ls c (o ∷ getD ls c [])) (w .lists) ∙ ap₂ (λ (x y : ℕ). set (M .lists) y (x ∷ getD (M .lists) y [])) e f;
       }
 
-  pub freeing-twins : (a : ℕ) {L M : Layout} → TwinLayouts L M → SameDone (doing S (freeing a) L) (doing S (freeing a) M)
+  pub freeing-twins : (E F a : ℕ) {L M : Layout} → TwinLayouts L M → SameDone TwinLayouts (doing S E (freeing a) L) (doing S F (freeing a) M)
   unfolding doing freed Founds
-  freeing-twins a {L} {M} w = go (find S a L) (find S a M) refl refl (find-twins a (start S) (w .blocks))
+  freeing-twins E F a {L} {M} w = go (find S a L) (find S a M) refl refl (find-twins a (start S) (w .blocks))
     where
-      go : (f g : Found) → find S a L ≡ f → find S a M ≡ g → Founds f g → SameDone (doing S (freeing a) L) (doing S (freeing a) M)
+      go : (f g : Found) → find S a L ≡ f → find S a M ≡ g → Founds f g → SameDone TwinLayouts (doing S E (freeing a) L) (doing S F (freeing a) M)
       go (block t) (block u) e f h = rw (e, f) (record { refusal = refl; address = refl; layouts = record { blocks = h; lists = w .lists } })
       go (block t) (thing p d m) e f h = absurd h
       go (block t) nothing e f h = absurd h

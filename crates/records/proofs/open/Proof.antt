@@ -6,6 +6,7 @@ use Rattle.records.proofs.open.Tie as tie
 use Rattle.records.proofs.open.Reads as reads
 use Rattle.records.proofs.open.Lts as lts
 use Rattle.heap.proofs.initialise.Reads as initialise-reads
+use Rattle.model.proofs.end_of.Reads as end-of-reads
 use Rattle.records.proofs.told.Reads as told-reads
 
 told-requires : tie.Need-told-requires
@@ -13,6 +14,9 @@ told-requires c κs = search needs
 
 returns : tie.Need-returns
 returns c = opens-beyond _ _ _ (omega arith) _ (c .told .ensures)
+
+end-of-requires : tie.Need-end-of-requires
+end-of-requires c κs = search needs
 
 sub-initialise : tie.Need-sub-initialise
 sub-initialise c = search needs
@@ -33,13 +37,13 @@ same-length : tie.Need-same-length
 same-length c = search needs
 
 returns-2 : tie.Need-returns-2
-returns-2 c = opens-granted _ _ _ (omega arith) (c .before .before .before .before .before .initialise .result) _ _ (c .before .before .before .before .before .initialise .ensures) (c .before .before .told2 .ensures) (c .if2 .taken)
+returns-2 c = opens-granted _ _ _ (omega arith) (c .before .before .before .before .before .initialise .result) _ _ _ (c .before .before .before .before .before .before .before .end-of .ensures) (c .before .before .before .before .before .initialise .ensures) (c .before .before .told2 .ensures) (c .if2 .taken)
 
 same-length-2 : tie.Need-same-length-2
 same-length-2 c = search needs
 
 returns-3 : tie.Need-returns-3
-returns-3 c = opens-refused _ _ _ (omega arith) (c .before .before .before .before .before .initialise .result) _ _ (c .before .before .before .before .before .initialise .ensures) (c .before .before .told2 .ensures) (c .if2 .left)
+returns-3 c = opens-refused _ _ _ (omega arith) (c .before .before .before .before .before .initialise .result) _ _ _ (c .before .before .before .before .before .before .before .end-of .ensures) (c .before .before .before .before .before .initialise .ensures) (c .before .before .told2 .ensures) (c .if2 .left)
 
 pub open-spec : {M : Type 1} → statement M
 open-spec =
@@ -47,6 +51,7 @@ open-spec =
     (tie.spec
     told-requires
     returns
+    end-of-requires
     sub-initialise
     part-initialise-start
     part-initialise-end

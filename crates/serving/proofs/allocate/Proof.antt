@@ -1,5 +1,5 @@
 use Rattle.examining.proofs.Examining.{sized-refuses, sized-decides}
-use Rattle.serving.proofs.Readied.{ready-for}
+use Rattle.serving.proofs.Readied.{holding-for}
 use Rattle.serving.proofs.Allocating.{allocates}
 use borrow.Author.Needs.{needs}
 use Rattle.serving.proofs.allocate.Statement.{statement}
@@ -7,7 +7,7 @@ use Rattle.serving.proofs.allocate.Tie as tie
 use Rattle.serving.proofs.allocate.Reads as reads
 use Rattle.serving.proofs.allocate.Lts as lts
 use Rattle.examining.proofs.examine_for.Reads as examine-for-reads
-use Rattle.engine.proofs.allocate.allocate.Reads as allocate-reads
+use Rattle.growing.proofs.allocate.Reads as allocate-reads
 use Rattle.serving.proofs.granted_or_not.Reads as granted-or-not-reads
 
 examine-for-requires : tie.Need-examine-for-requires
@@ -20,7 +20,7 @@ enum-told : tie.Need-enum-told
 enum-told c = search needs
 
 allocate-requires : tie.Need-allocate-requires
-allocate-requires c κs = ready-for (c .before .before .before .before .before .before .pre) _ _ _ (c .before .before .before .examine-for .ensures) (c .before .enum-told .given .1)
+allocate-requires c κs = (holding-for (c .before .before .before .before .before .before .pre) _ _ _ (c .before .before .before .examine-for .ensures) (c .before .enum-told .given .1))
 
 granted-or-not-requires : tie.Need-granted-or-not-requires
 granted-or-not-requires c κs = search needs

@@ -21,7 +21,7 @@ same-length : tie.Need-same-length
 same-length c = search needs
 
 returns : tie.Need-returns
-returns c = first-gives _ _ (c .before .before .before .before .before .before .before .args .a .0) (c .before .before .before .before .before .before .before .args .n) (c .before .before .before .before .resize-in-place .result) _ (c .before .before .before .before .resize-in-place .ensures) (sym (c .before .says-no-room .ensures) ∙ not-true _ (c .if1 .taken))
+returns c = first-gives (c .before .before .before .before .before .before .before .pre) _ (c .before .before .before .before .before .before .before .args .a .0) (c .before .before .before .before .before .before .before .args .n) (c .before .before .before .before .resize-in-place .result) _ (c .before .before .before .before .resize-in-place .ensures) (sym (c .before .says-no-room .ensures) ∙ not-true _ (c .if1 .taken))
 
 relocate-requires : tie.Need-relocate-requires
 relocate-requires c κs = search needs
@@ -33,7 +33,7 @@ same-length-2 : tie.Need-same-length-2
 same-length-2 c = search needs
 
 returns-2 : tie.Need-returns-2
-returns-2 c = second-gives _ _ (c .before .before .before .before .before .before .before .before .before .before .before .before .before .args .a .0) (c .before .before .before .before .before .before .before .before .before .before .before .before .before .args .n) (c .before .before .before .before .before .before .before .before .before .before .resize-in-place .result) _ (c .before .before .before .before .before .before .before .before .before .before .resize-in-place .ensures) (sym (c .before .before .before .before .before .before .before .says-no-room .ensures) ∙ not-false _ (c .before .before .before .before .before .before .if1 .left)) (c .before .before .before .before .relocate .result) _ (c .before .before .before .before .relocate .ensures) (sym (c .before .says-no-room2 .ensures) ∙ not-true _ (c .if2 .taken))
+returns-2 c = second-gives (c .before .before .before .before .before .before .before .before .before .before .before .before .before .pre) _ (c .before .before .before .before .before .before .before .before .before .before .before .before .before .args .a .0) (c .before .before .before .before .before .before .before .before .before .before .before .before .before .args .n) (c .before .before .before .before .before .before .before .before .before .before .resize-in-place .result) _ (c .before .before .before .before .before .before .before .before .before .before .resize-in-place .ensures) (sym (c .before .before .before .before .before .before .before .says-no-room .ensures) ∙ not-false _ (c .before .before .before .before .before .before .if1 .left)) (c .before .before .before .before .relocate .result) _ (c .before .before .before .before .relocate .ensures) (sym (c .before .says-no-room2 .ensures) ∙ not-true _ (c .if2 .taken))
 
 keep-requires : tie.Need-keep-requires
 keep-requires c κs = search needs
@@ -42,7 +42,7 @@ same-length-3 : tie.Need-same-length-3
 same-length-3 c = search needs
 
 returns-3 : tie.Need-returns-3
-returns-3 c = third-gives _ _ (c .before .before .before .before .before .before .before .before .before .before .before .before .before .before .before .args .a .0) (c .before .before .before .before .before .before .before .before .before .before .before .before .before .before .before .args .n) (c .before .before .before .before .before .before .before .before .before .before .before .before .resize-in-place .result) _ (c .before .before .before .before .before .before .before .before .before .before .before .before .resize-in-place .ensures) (sym (c .before .before .before .before .before .before .before .before .before .says-no-room .ensures) ∙ not-false _ (c .before .before .before .before .before .before .before .before .if1 .left)) (c .before .before .before .before .before .before .relocate .result) _ (c .before .before .before .before .before .before .relocate .ensures) (sym (c .before .before .before .says-no-room2 .ensures) ∙ not-false _ (c .before .before .if2 .left)) (c .keep .result) (c .keep .ensures)
+returns-3 c = third-gives (c .before .before .before .before .before .before .before .before .before .before .before .before .before .before .before .pre) _ (c .before .before .before .before .before .before .before .before .before .before .before .before .before .before .before .args .a .0) (c .before .before .before .before .before .before .before .before .before .before .before .before .before .before .before .args .n) (c .before .before .before .before .before .before .before .before .before .before .before .before .resize-in-place .result) _ (c .before .before .before .before .before .before .before .before .before .before .before .before .resize-in-place .ensures) (sym (c .before .before .before .before .before .before .before .before .before .says-no-room .ensures) ∙ not-false _ (c .before .before .before .before .before .before .before .before .if1 .left)) (c .before .before .before .before .before .before .relocate .result) _ (c .before .before .before .before .before .before .relocate .ensures) (sym (c .before .before .before .says-no-room2 .ensures) ∙ not-false _ (c .before .before .if2 .left)) (c .keep .result) (c .keep .ensures)
 
 pub resize-spec : {M : Type 1} → statement M
 resize-spec =

@@ -1,14 +1,14 @@
 use Rattle.examining.proofs.Examining.{sized-refuses, sized-decides}
-use Rattle.serving.proofs.Readied.{ready-for}
-use Rattle.serving.proofs.Resizing.{resizes}
+use Rattle.serving.proofs.Readied.{holding-for}
+use Rattle.serving.proofs.Resizing.{relocates}
 use borrow.Author.Needs.{needs}
 use Rattle.serving.proofs.resize.relocate.Statement.{statement}
 use Rattle.serving.proofs.resize.relocate.Tie as tie
 use Rattle.serving.proofs.resize.relocate.Reads as reads
 use Rattle.serving.proofs.resize.relocate.Lts as lts
 use Rattle.examining.proofs.examine_for.Reads as examine-for-reads
+use Rattle.growing.proofs.relocate.Reads as relocate-reads
 use Rattle.serving.proofs.resize.resized_or_not.Reads as resized-or-not-reads
-use Rattle.resizing.proofs.resize.relocate.Reads as relocate-reads
 
 examine-for-requires : tie.Need-examine-for-requires
 examine-for-requires c κs = search needs
@@ -20,7 +20,7 @@ enum-told : tie.Need-enum-told
 enum-told c = search needs
 
 relocate-requires : tie.Need-relocate-requires
-relocate-requires c κs = ready-for (c .before .before .before .before .before .before .pre) _ _ _ (c .before .before .before .examine-for .ensures) (c .before .enum-told .given .1)
+relocate-requires c κs = (holding-for (c .before .before .before .before .before .before .pre) _ _ _ (c .before .before .before .examine-for .ensures) (c .before .enum-told .given .1))
 
 resized-or-not-requires : tie.Need-resized-or-not-requires
 resized-or-not-requires c κs = search needs
@@ -35,7 +35,7 @@ same-length-2 : tie.Need-same-length-2
 same-length-2 c = search needs
 
 returns-2 : tie.Need-returns-2
-returns-2 c = sized-decides _ _ _ _ _ (c .before .before .before .before .before .before .before .examine-for .ensures) (c .before .before .before .before .before .enum-told .given .1) _ (resizes _ _ _ _ _ _ _ _ (c .before .before .before .relocate .ensures) (c .resized-or-not .ensures))
+returns-2 c = sized-decides _ _ _ _ _ (c .before .before .before .before .before .before .before .examine-for .ensures) (c .before .before .before .before .before .enum-told .given .1) _ (relocates _ _ _ _ _ _ _ (c .before .before .before .relocate .ensures) (c .resized-or-not .ensures))
 
 pub relocate-spec : {M : Type 1} → statement M
 relocate-spec =

@@ -1,0 +1,3 @@
+mod EdgeLaws
+mod GrowLaws
+mod Running
