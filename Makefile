@@ -83,20 +83,22 @@ files:
 	install -m 644 $(LIBRARIES:%=target/staticlib/lib%.a) $(PREFIX)/lib
 	for name in $(LIBRARIES); do sed 's|@PREFIX@|$(abspath $(PREFIX))|; s|@VERSION@|$(VERSION)|' include/$$name.pc.in > $(PREFIX)/lib/pkgconfig/$$name.pc || exit 1; done
 
-# The example hosts in C, built with what install gives; the console's on a heap with room, and on one in which most is refused; the
-# ward's remark, shortened on a full heap; the form editor, that asks before a record moves; the morning's start-up, of which `show`,
-# and the second program too, tell what a sweep gave back; the handset that takes over the console's records, told by `show` too; and
-# the upgrade, on a heap from before classes were closed, of which both tell how an old page leaves.
+# The example hosts in C, built with what install gives; the console's on a heap that begins small and grows, told by `show`, and in a
+# buffer in which most is refused; the ward's remark, shortened on a full heap; the form editor, that asks before a record moves; the
+# morning's start-up, of which `show`, and the second program too, tell what a sweep gave back; the handset that takes over the
+# console's records, told by `show` too; and the upgrade, on a heap from before classes were closed, of which both tell how an old page
+# leaves.
 # The pkg-config files lead to headers and archives, and all are C++ too.
 INSTALLED = target/installed
 EXAMPLES = console remark editor morning handset
-TOLD = morning-before morning-after handset-heap upgrade-old upgrade-before upgrade-after
+TOLD = console-heap morning-before morning-after handset-heap upgrade-old upgrade-before upgrade-after
 example: lib
 	$(if $(BUILT),,rt check show)
 	$(MAKE) --no-print-directory files PREFIX=$(INSTALLED)
 	for name in $(EXAMPLES); do CFLAGS='-I$(INSTALLED)/include' tools/chost examples/$$name.c $(LIBRARIES:%=$(INSTALLED)/lib/lib%.a) > target/$$name.out && diff examples/$$name.out target/$$name.out && cat target/$$name.out || exit 1; done
 	CFLAGS='-I$(INSTALLED)/include -DLENGTH=4500' tools/chost examples/console.c $(INSTALLED)/lib/libjagwibodu.a > target/console-small.out
 	diff examples/console-small.out target/console-small.out
+	CFLAGS='-I$(INSTALLED)/include' tools/chost examples/console.c $(INSTALLED)/lib/libjagwibodu.a -- target/console-heap.heap > target/console.out
 	CFLAGS='-I$(INSTALLED)/include' tools/chost examples/morning.c $(INSTALLED)/lib/libjagwibodu.a -- target/morning-before.heap target/morning-after.heap > target/morning.out
 	CFLAGS='-I$(INSTALLED)/include' tools/chost examples/handset.c $(LIBRARIES:%=$(INSTALLED)/lib/lib%.a) -- target/handset-heap.heap > target/handset.out
 	python3 compare/former.py target/upgrade-old.heap

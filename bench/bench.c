@@ -1,14 +1,16 @@
 /* Does one call on a heap, once by the library and once by the twin, between marks that icount counts:
    region 0 is ours, region 1 is the twin's. Both must answer alike and leave the same bytes.
-     bench HEAP-FILE CALL ADDRESS SIZE      (a number that the call does not take is 0)
+     bench HEAP-FILE CALL ADDRESS SIZE      (a number that the call does not take is 0; initialise: SIZE is the end)
    As the twin's words are, so is the library: the console's, or the hand unit's. */
 #include "twin.h"
 #if TWIN_WORD == 8
 #include "../include/jagwibodu.h"
 #define OUR(call) jagwibodu_##call
+#define OPEN(call, h, end) call(h, length, end)
 #else
 #include "../include/jagwibodu_hand.h"
 #define OUR(call) jagwibodu_hand_##call
+#define OPEN(call, h, end) call(h, length)
 #endif
 
 #include <count.h>
@@ -70,7 +72,7 @@ static void refresh(void)
 static void measure(const char *call, uint64_t address, uint64_t size)
 {
     if (!strcmp(call, "initialise")) {
-        BOTH(OUR(initialise)(ours, length), twin_initialise(twins, length));
+        BOTH(OPEN(OUR(initialise), ours, size), OPEN(twin_initialise, twins, size));
         return;
     }
     if (!strcmp(call, "check")) {

@@ -6,9 +6,9 @@
 The shape is the console's (wide) or the hand unit's (hand), whose code is 64-bit
 code here too: the toolchain compiles for x86-64 alone.
 Prints a Markdown table, how each count grows with the heap, the library's size,
-what a sweep costs against a check and how it grows, and last the worst ratio of
-all rows, beyond what is let pass of the hand unit's; the status is 1 if one of
-these is over its limit.
+what a sweep costs against a check and how it grows, and last the worst ratios, of
+calls that grow the heap, of sweeps and of all others, beyond what is let pass of
+the hand unit's; the status is 1 if one of these is over its limit.
 All that is built or fetched goes below target/. "--prefix twin_" without a
 library puts the twin on both sides.
 """
@@ -23,7 +23,7 @@ import sys
 ROOT = os.path.dirname(os.path.dirname(os.path.abspath(__file__)))
 sys.path.insert(0, os.path.join(ROOT, "compare"))
 sys.dont_write_bytecode = True  # products belong below target/
-from second import BEFORE, GRANTED, HAND, NO_ROOM, SHAPES, VARIABLE, WIDE, Heap  # noqa: E402
+from second import BEFORE, GRANTED, HAND, NO_ROOM, SHAPES, VARIABLE, WIDE, Heap, end_of  # noqa: E402
 
 PRODUCTS = os.path.join(ROOT, "target", "bench")
 CALLS = ("initialise", "check", "allocate", "resize", "resize_in_place", "move", "free", "sweep")
@@ -31,31 +31,41 @@ SIZES = {WIDE: (10000, 65536, 1048576), HAND: (1000, 10000, 65536)}
 OWN_PREFIX = {WIDE: "jagwibodu_", HAND: "jagwibodu_hand_"}
 HEADING = {WIDE: "heap", HAND: "hand unit's heap, 64-bit code"}
 MOVES, KEPT, CANNOT_STAY, FULL = "it moves", "it is kept for want of room", "it cannot stay", "there is no room"
+GROWS = "the heap grows"
 OLDER, CLOSED = "full of older items", "pages of closed classes"
-LIMIT, SWEEP_TWIN_LIMIT = 1.05, 1.25  # no call may take more instructions than so many times the twin's; and no sweep
+ROOM = 4400  # bytes behind the end of a heap that has grown full: a page takes 4,248 of them at most
+# No call may take more instructions than so many times the twin's; no sweep; and none that grows the heap: the twin goes through
+# the free list once for that, ours does so again after it has found no room.
+LIMIT, SWEEP_TWIN_LIMIT, GROWING_TWIN_LIMIT = 1.05, 1.25, 1.3
 # The hand unit's heaps are short: the map that a check clears, and the table that a sweep clears, are not lost in what they then take.
 CLEARED = {WIDE: (0, 0), HAND: (430, 1900)}  # so many instructions more are let pass for each check, and for a sweep
 SWEEP_LIMIT = 2.5  # a sweep of a heap with half its pages empty takes at most so many times what the check of it takes
 SWEEP_GROWTH_LIMIT = 19 / 16  # and from the last length but one to the last it grows so many times as much as the heap at most
 
 
-def fresh(shape, length):
+def fresh(shape, length, end=None):
+    """A heap that begins with this end, or takes the whole buffer at once."""
     heap = Heap(bytearray(length), shape)
-    heap.initialise()
+    heap.initialise(end)
     return heap
 
 
-def nearly_empty(shape, length):
-    """A few records, one of them a tenth of the heap."""
-    heap = fresh(shape, length)
+def just_begun(shape, length):
+    """As small as a heap can be."""
+    return fresh(shape, length, shape.shortest)
+
+
+def nearly_empty(shape, length, end=None):
+    """A few records, one of them a tenth of the buffer."""
+    heap = fresh(shape, length, end)
     for size in (40, length // 10, 40, 300, 40):
         heap.allocate(size)
     return heap
 
 
-def filled(shape, length, first, size, part=None):
+def filled(shape, length, first, size, part=None, end=None):
     """A record, then records until there is no room; one of so many is freed, in scattered order, or none."""
-    rng, heap, records = random.Random(1), fresh(shape, length), []
+    rng, heap, records = random.Random(1), fresh(shape, length, end), []
     heap.allocate(first)
     while True:
         refusal, address = heap.allocate(size(rng))
@@ -77,15 +87,15 @@ def sizes_of_items(shape):
     return lambda rng: rng.randint(1, shape.largest_item)
 
 
-def full_of_blocks(shape, length):
+def full_of_blocks(shape, length, end=None):
     """An item, and then blocks of mixed sizes; a third of them is freed."""
-    return filled(shape, length, 40, sizes_of_blocks(shape, length, 900), 3)
+    return filled(shape, length, 40, sizes_of_blocks(shape, length, 900), 3, end)
 
 
-def full_of_items(shape, length):
+def full_of_items(shape, length, end=None):
     """A block, and then items of the smallest class, for its sizes in turn; half of them is freed."""
     sizes = itertools.cycle(range(1, 9))
-    return filled(shape, length, 600, lambda rng: next(sizes), 2)
+    return filled(shape, length, 600, lambda rng: next(sizes), 2, end)
 
 
 def full_of_older_items(shape, length):
@@ -127,11 +137,41 @@ def mixed(shape, length):
     return filled(shape, length, 40, lambda rng: rng.choice([size(rng) for size in sorts]), 3)
 
 
+def grown_nearly_empty(shape, length):
+    """A few records, of a heap that began as small as it can be."""
+    return nearly_empty(shape, length, shape.shortest)
+
+
+def grown_full(make, shape, length):
+    """A full heap that began as small as it can be, in a buffer that is then longer: there it can grow on."""
+    heap = make(shape, length - ROOM, shape.shortest)
+    return Heap(heap.data + bytes(ROOM), shape)
+
+
+def grown_full_of_blocks(shape, length):
+    """The last block is in use."""
+    return grown_full(full_of_blocks, shape, length)
+
+
+def grown_full_but_for_the_last(shape, length):
+    """The same, but the last block is free."""
+    heap = grown_full_of_blocks(shape, length)
+    heap.free(block_with(heap, lambda p, size: True))
+    return heap
+
+
+def grown_full_of_items(shape, length):
+    return grown_full(full_of_items, shape, length)
+
+
 KINDS = {"empty": fresh, "nearly empty": nearly_empty, "full of blocks": full_of_blocks, "full of items": full_of_items,
          "mixed": mixed}
 # What only the check and the sweep are measured on; and, with closed classes, what the rule for these is about.
 SWEPT = {OLDER: full_of_older_items, "half the pages empty": half_the_pages_empty, CLOSED: pages_of_closed_classes,
          "items of all sizes": items_of_all_sizes}
+# Heaps that began small and have room to grow, which growing calls are measured on.
+GROWN = {"just begun": just_begun, "grown, nearly empty": grown_nearly_empty, "grown, full of blocks": grown_full_of_blocks,
+         "grown, full of blocks, the last one free": grown_full_but_for_the_last, "grown, full of items": grown_full_of_items}
 
 
 def last(items):
@@ -154,6 +194,11 @@ def closed_class_with_items(state):
     return next((c for c in state.shape.closed if state.lists[c]), None)
 
 
+def largest_free(state):
+    """The size of the largest free block, 0 if none."""
+    return max((state.blocks[p][1] for p in state.free), default=0)
+
+
 def block_with(heap, is_right):
     """The address of the last variable block that a condition on position and size holds for."""
     blocks = heap.state.blocks
@@ -174,8 +219,9 @@ def allocations(heap):
     if empty is not None:
         yield "allocate the first item of a class", "allocate", 0, 8 * empty + 8
     if state.free:
-        largest = max(state.blocks[p][1] for p in state.free)
-        yield "allocate a block", "allocate", 0, max(heap.shape.largest_item + 1, min(largest - heap.shape.tags, 500))
+        fits = min(largest_free(state) - heap.shape.tags, 500)
+        yield "allocate a block", "allocate", 0, max(heap.shape.largest_item + 1, fits)
+    yield f"allocate a block, {FULL}", "allocate", 0, heap.shape.largest_size
 
 
 def frees(heap):
@@ -233,9 +279,8 @@ def moving(heap):
 def moving_blocks(heap):
     """The largest block that cannot grow and finds room elsewhere."""
     state = heap.state
-    largest_free = max((state.blocks[p][1] for p in state.free), default=0)
     fits = [(size, p + heap.shape.word) for p, (kind, size) in state.blocks.items()
-            if kind == VARIABLE and not state.is_free(p + size) and size + 8 <= largest_free]
+            if kind == VARIABLE and not state.is_free(p + size) and size + 8 <= largest_free(state)]
     if fits:
         _, address = max(fits)
         yield f"a large block, {MOVES}", address, state.capacity(address) + 8
@@ -284,27 +329,45 @@ def closed_class_calls(heap):
         yield "move an item within its closed class, to a block", "move", item, 8 * c + 8
 
 
+def growing_calls(heap):
+    """For more than any free block has, so that the heap grows by it where its buffer has room."""
+    state = heap.state
+    (item, c), block = last_item(heap), block_with(heap, lambda p, size: True)
+    size = max(heap.shape.largest_item, largest_free(state) - heap.shape.tags) + 1
+    yield f"allocate a block, {GROWS}", "allocate", 0, size
+    yield f"allocate the first item of a class, {GROWS}", "allocate", 0, 8 * empty_class(state) + 8
+    if item:
+        yield f"move an item to a new page, {GROWS}", "move", item, 8 * empty_class(state, c) + 8
+        yield f"move an item to a block, {GROWS}", "move", item, size
+    if block:
+        larger = max(size, state.capacity(block) + 8)
+        yield f"move a block, {GROWS}", "move", block, larger
+        yield f"resize a block, {MOVES}, {GROWS}", "resize", block, larger
+    yield f"allocate a block, {FULL}", "allocate", 0, heap.shape.largest_size
+
+
 def comes_out(heap, name, call, address, size):
     """Whether the call ends as its name says."""
     trial = Heap(bytearray(heap.data), heap.shape)
     arguments = {"allocate": (size,), "free": (address,)}.get(call, (address, size))
     refusal, _ = getattr(trial, call)(*arguments)
     wanted = NO_ROOM if name.endswith((CANNOT_STAY, FULL)) else GRANTED
-    return refusal == wanted and bool(trial.kept) == name.endswith(KEPT)
+    return refusal == wanted and bool(trial.kept) == name.endswith(KEPT) and bool(trial.grown) == name.endswith(GROWS)
 
 
 def calls_on(kind, heap):
     """What is measured on a heap: (name, call, address, size), only what ends as its name says."""
     yield "check", "check", 0, 0
     yield "sweep", "sweep", 0, 0
-    every_sort = allocations, frees, resizes, resizes_in_place, moves
-    for sort in (closed_class_calls,) if kind == CLOSED else () if kind in SWEPT else every_sort:
+    special = dict.fromkeys(SWEPT, ()) | dict.fromkeys(GROWN, (growing_calls,)) | {CLOSED: (closed_class_calls,)}
+    for sort in special.get(kind, (allocations, frees, resizes, resizes_in_place, moves)):
         yield from (row for row in sort(heap) if comes_out(heap, *row))
 
 
 def kinds(shape):
-    """The heaps that are measured. The hand unit has none from before sizes were kept, nor with closed classes."""
-    return {kind: make for kind, make in (KINDS | SWEPT).items() if shape is WIDE or kind not in (OLDER, CLOSED)}
+    """The heaps that are measured. The hand unit has none from before sizes were kept, with closed classes, or that grow."""
+    return {kind: make for kind, make in (KINDS | SWEPT | GROWN).items()
+            if shape is WIDE or kind not in (OLDER, CLOSED, *GROWN)}
 
 
 def let_pass(shape, name):
@@ -314,6 +377,11 @@ def let_pass(shape, name):
         return a_sweep
     ways = 1 + (MOVES in name) + 2 * (KEPT in name) if name.startswith("resize") else 1
     return ways * a_check
+
+
+def twin_limit(name):
+    """How many times the twin's instructions a call may take."""
+    return SWEEP_TWIN_LIMIT if name == "sweep" else GROWING_TWIN_LIMIT if name.endswith(GROWS) else LIMIT
 
 
 def build(shape, libraries, prefix):
@@ -351,7 +419,8 @@ def saved(name, data):
 def rows(program, shape, sizes):
     """(length, kind of heap, name of the call, ours, the twin's)"""
     for length in sizes:
-        yield length, "not opened", "initialise", *count(program, saved("zeros.heap", bytes(length)), "initialise", 0, 0)
+        path = saved("zeros.heap", bytes(length))
+        yield length, "not opened", "initialise", *count(program, path, "initialise", 0, end_of(length))
         for kind, make in kinds(shape).items():
             heap = make(shape, length)
             path = saved(f"{shape.name}-{kind.replace(' ', '-')}-{length}.heap", heap.data)
@@ -406,13 +475,12 @@ def main():
         counts.setdefault((kind, name), {})[length] = ours
         print(f"| {length:,}, {kind} | {name} | {ours:,} | {twin:,} | {ours / twin:.2f} |", flush=True)
         row = (ours - let_pass(shape, name)) / twin, f"{name}, {length:,}, {kind}"
-        worst[name == "sweep"] = max(worst.get(name == "sweep", row), row)
+        worst[twin_limit(name)] = max(worst.get(twin_limit(name), row), row)
     print_growth(counts)
     for library in chosen.library:
         print(f"\n{os.path.basename(library)}: {os.path.getsize(library):,} bytes")
     dear_sweeps = sweeps_over_limits(shape, counts)
-    slow = [over_limit(f"worst ratio, {where}", ratio, SWEEP_TWIN_LIMIT if sweep else LIMIT)
-            for sweep, (ratio, where) in sorted(worst.items(), reverse=True)]
+    slow = [over_limit(f"worst ratio, {where}", ratio, limit) for limit, (ratio, where) in sorted(worst.items(), reverse=True)]
     return 1 if dear_sweeps or any(slow) else 0
 
 

@@ -6,11 +6,12 @@
 enum kind { FREE = 0, VARIABLE = 2, PAGE = 3 };
 
 /* What a word's size decides: the console's heap has words of 8 bytes, the hand unit's has words of 4. Of its classes the
-   lowest are handed out, as many as are offered; the others are closed, and older heaps may still have pages of them. */
+   lowest are handed out, as many as are offered; the others are closed, and older heaps may still have pages of them. A
+   heap that grows may end before its buffer does. */
 #if TWIN_WORD == 8
 typedef uint64_t word;
 static const uint64_t MAGIC = 0x01636f6c6c617978;
-enum { LONGEST = 1048576, CLASSES = 32, OFFERED = 16, SMALLEST_PAGE = 4112, WORD_SHIFT = 3 };
+enum { LONGEST = 1048576, CLASSES = 32, OFFERED = 16, SMALLEST_PAGE = 4112, WORD_SHIFT = 3, GROWS = true };
 
 /* The items of a page of each class: 4,096 divided by the item's size, and one more. */
 static const uint16_t page_items[CLASSES] = {
@@ -30,7 +31,7 @@ static uint64_t items_in_page(uint64_t class)
 #elif TWIN_WORD == 4
 typedef uint32_t word;
 static const uint64_t MAGIC = 0x02636f6c6c617978;
-enum { LONGEST = 65536, CLASSES = 16, OFFERED = 16, SMALLEST_PAGE = 32, WORD_SHIFT = 2 };
+enum { LONGEST = 65536, CLASSES = 16, OFFERED = 16, SMALLEST_PAGE = 32, WORD_SHIFT = 2, GROWS = false };
 
 static uint64_t items_in_page(uint64_t class)
 {
@@ -76,7 +77,8 @@ enum refusal {
     BAD_SIZE,
     BAD_ADDRESS,
     NO_ROOM,
-    ALREADY
+    ALREADY,
+    BAD_END
 };
 
 static uint64_t refuse(enum refusal number)
@@ -104,9 +106,15 @@ static bool has_magic(const uint8_t *h)
     return first == MAGIC;
 }
 
+/* The end of a buffer; and of the heap in it, which says itself how far it has grown. */
 static uint64_t end_of(size_t n)
 {
     return n & ~(uint64_t)7;
+}
+
+static uint64_t end_in(const uint8_t *h, size_t n)
+{
+    return GROWS ? get(h, STORED_END) : end_of(n);
 }
 
 /* Blocks. */
@@ -230,9 +238,17 @@ static uint64_t words_in(uint64_t eights)
     return 8 / WORD * eights;
 }
 
-static bool fixed_words_right(const uint8_t *h, uint64_t end)
+/* Whether a heap in a buffer of n bytes may end there. */
+static bool may_end(size_t n, uint64_t end)
 {
-    return get(h, DATA_AREA_WORD) == DATA_AREA && get(h, INDEX_PAGE_WORD) == INDEX_PAGE && get(h, STORED_END) == end
+    if (!GROWS)
+        return end == end_of(n);
+    return rotate_right(end - SHORTEST, 3) <= (n - SHORTEST) / 8;
+}
+
+static bool fixed_words_right(const uint8_t *h, size_t n)
+{
+    return get(h, DATA_AREA_WORD) == DATA_AREA && get(h, INDEX_PAGE_WORD) == INDEX_PAGE && may_end(n, get(h, STORED_END))
         && get(h, INDEX_LOW_TAG) == INDEX_TAG && get(h, INDEX_HIGH_TAG) == INDEX_TAG;
 }
 
@@ -389,13 +405,13 @@ static bool no_lists(const uint8_t *h)
     return any == 0;
 }
 
-static bool is_sound(const uint8_t *h, uint64_t end)
+static bool is_sound(const uint8_t *h, size_t n)
 {
     struct marks marks; /* the map is cleared where a page is met */
 
     marks.count = 0;
     marks.top = 0;
-    if (!fixed_words_right(h, end) || !blocks_right(h, end, &marks))
+    if (!fixed_words_right(h, n) || !blocks_right(h, end_in(h, n), &marks))
         return false;
     return marks.top == 0 ? no_lists(h) : lists_right(h, &marks);
 }
@@ -406,7 +422,7 @@ uint64_t twin_check(const uint8_t *h, size_t n)
         return refuse(BAD_LENGTH);
     if (!has_magic(h))
         return refuse(NO_HEAP);
-    return is_sound(h, end_of(n)) ? GRANTED : refuse(NOT_SOUND);
+    return is_sound(h, n) ? GRANTED : refuse(NOT_SOUND);
 }
 
 /* The free list. */
@@ -443,8 +459,27 @@ static void use(uint8_t *h, uint64_t block, uint64_t need, uint64_t whole, uint6
     }
 }
 
-/* The lowest free block that is large enough becomes a used one; 0 if there is none. */
-static uint64_t take_block(uint8_t *h, uint64_t need, uint64_t kind)
+/* Where no free block is large enough: the heap grows by a free one of exactly the need, or its last block is enlarged to
+   that if it is free ("last" is the last free block, 0 if none), and becomes a used one; 0 if it would pass the buffer's
+   end. A function of its own at run time too: so nobody else pays for it. */
+static __attribute__((noinline)) uint64_t take_at_end(uint8_t *h, size_t n, uint64_t need, uint64_t kind, uint64_t last)
+{
+    uint64_t block = get(h, STORED_END);
+
+    if (last != 0 && last + get(h, last) == block) {
+        block = last;
+        last = previous_of(h, block);
+    }
+    if (block + need > end_of(n))
+        return 0;
+    put(h, STORED_END, block + need);
+    link_free(h, block, need, last, 0);
+    use(h, block, need, need, kind, last, 0);
+    return block;
+}
+
+/* The lowest free block that is large enough becomes a used one; 0 if there is none, and the heap cannot grow. */
+static uint64_t take_block(uint8_t *h, size_t n, uint64_t need, uint64_t kind)
 {
     uint64_t previous = 0;
     uint64_t block = get(h, FIRST_FREE);
@@ -453,8 +488,9 @@ static uint64_t take_block(uint8_t *h, uint64_t need, uint64_t kind)
         previous = block;
         block = next_of(h, block);
     }
-    if (block != 0)
-        use(h, block, need, get(h, block), kind, previous, next_of(h, block));
+    if (block == 0)
+        return end_in(h, n) < end_of(n) ? take_at_end(h, n, need, kind, previous) : 0;
+    use(h, block, need, get(h, block), kind, previous, next_of(h, block));
     return block;
 }
 
@@ -479,11 +515,11 @@ static uint64_t release_block(uint8_t *h, uint64_t block, uint64_t size, uint64_
 
 /* Items. */
 
-static bool make_page(uint8_t *h, uint64_t class)
+static bool make_page(uint8_t *h, size_t n, uint64_t class)
 {
     uint64_t step = item_size(class);
     uint64_t items = items_in_page(class);
-    uint64_t page = take_block(h, items * step + TAGS, PAGE);
+    uint64_t page = take_block(h, n, items * step + TAGS, PAGE);
 
     if (page == 0)
         return false;
@@ -500,11 +536,11 @@ static bool make_page(uint8_t *h, uint64_t class)
     return true;
 }
 
-static uint64_t take_item(uint8_t *h, uint64_t size)
+static uint64_t take_item(uint8_t *h, size_t n, uint64_t size)
 {
     uint64_t class = class_of(size);
 
-    if (head_of(h, class) == 0 && !make_page(h, class))
+    if (head_of(h, class) == 0 && !make_page(h, n, class))
         return 0;
     uint64_t item = head_of(h, class) + INDEX_PAGE;
     put_head(h, class, next_in(get(h, item)));
@@ -583,11 +619,11 @@ static struct live find(const uint8_t *h, uint64_t end, uint64_t address)
 
 /* The rules. */
 
-static uint64_t allocate(uint8_t *h, uint64_t size)
+static uint64_t allocate(uint8_t *h, size_t n, uint64_t size)
 {
     if (size <= LARGEST_ITEM)
-        return take_item(h, size);
-    uint64_t block = take_block(h, need_of(size), VARIABLE);
+        return take_item(h, n, size);
+    uint64_t block = take_block(h, n, need_of(size), VARIABLE);
     return block ? block + WORD : 0;
 }
 
@@ -669,11 +705,11 @@ static uint64_t shown_of(const struct live *live)
     return live->is_item && live->asked ? live->asked : capacity_of(live);
 }
 
-static uint64_t move(uint8_t *h, struct live *live, uint64_t address, uint64_t size)
+static uint64_t move(uint8_t *h, size_t n, struct live *live, uint64_t address, uint64_t size)
 {
     uint64_t shown = shown_of(live);
     uint64_t one_before = live->previous_free ? previous_of(h, live->previous_free) : 0;
-    uint64_t new = allocate(h, size);
+    uint64_t new = allocate(h, n, size);
 
     if (new == 0)
         return 0;
@@ -794,14 +830,14 @@ static void link_lists(uint8_t *h, uint64_t end)
 
 /* The calls. */
 
-uint64_t twin_initialise(uint8_t *h, size_t n)
+static uint64_t initialise(uint8_t *h, size_t n, uint64_t end)
 {
-    uint64_t end = end_of(n);
-
     if (n < SHORTEST || n > LONGEST)
         return refuse(BAD_LENGTH);
     if (has_magic(h))
         return refuse(ALREADY);
+    if (!may_end(n, end))
+        return refuse(BAD_END);
     memcpy(h, &MAGIC, 8);
     put(h, DATA_AREA_WORD, DATA_AREA);
     put(h, INDEX_PAGE_WORD, INDEX_PAGE);
@@ -813,6 +849,18 @@ uint64_t twin_initialise(uint8_t *h, size_t n)
     return GRANTED;
 }
 
+#if TWIN_WORD == 8
+uint64_t twin_initialise(uint8_t *h, size_t n, uint64_t end)
+{
+    return initialise(h, n, end);
+}
+#else
+uint64_t twin_initialise(uint8_t *h, size_t n)
+{
+    return initialise(h, n, end_of(n));
+}
+#endif
+
 uint64_t twin_allocate(uint8_t *h, size_t n, uint64_t size)
 {
     uint64_t refused = twin_check(h, n);
@@ -821,7 +869,7 @@ uint64_t twin_allocate(uint8_t *h, size_t n, uint64_t size)
         return refused;
     if (size == 0 || size > LARGEST_SIZE)
         return refuse(BAD_SIZE);
-    uint64_t address = allocate(h, size);
+    uint64_t address = allocate(h, n, size);
     return address ? address : refuse(NO_ROOM);
 }
 
@@ -834,7 +882,7 @@ static inline uint64_t find_to_resize(const uint8_t *h, size_t n, uint64_t addre
         return refused;
     if (size == 0 || size > LARGEST_SIZE)
         return refuse(BAD_SIZE);
-    *live = find(h, end_of(n), address);
+    *live = find(h, end_in(h, n), address);
     return live->found ? GRANTED : refuse(BAD_ADDRESS);
 }
 
@@ -855,7 +903,7 @@ uint64_t twin_move(uint8_t *h, size_t n, uint64_t address, uint64_t size)
 
     if (refused)
         return refused;
-    uint64_t new = move(h, &live, address, size);
+    uint64_t new = move(h, n, &live, address, size);
     return new ? new : refuse(NO_ROOM);
 }
 
@@ -888,7 +936,7 @@ uint64_t twin_free(uint8_t *h, size_t n, uint64_t address)
 
     if (refused)
         return refused;
-    struct live live = find(h, end_of(n), address);
+    struct live live = find(h, end_in(h, n), address);
     if (!live.found)
         return refuse(BAD_ADDRESS);
     release(h, &live, address);
@@ -901,7 +949,7 @@ uint64_t twin_sweep(uint8_t *h, size_t n)
 
     if (refused)
         return refused;
-    uint64_t count = give_back_pages(h, end_of(n));
-    link_lists(h, end_of(n));
+    uint64_t count = give_back_pages(h, end_in(h, n));
+    link_lists(h, end_in(h, n));
     return count;
 }

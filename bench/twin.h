@@ -10,7 +10,11 @@
 #define TWIN_WORD 8
 #endif
 
-uint64_t twin_initialise(uint8_t *h, size_t n);
+#if TWIN_WORD == 8
+uint64_t twin_initialise(uint8_t *h, size_t n, uint64_t end);
+#else
+uint64_t twin_initialise(uint8_t *h, size_t n); /* this one does not grow: it ends where its buffer does */
+#endif
 uint64_t twin_check(const uint8_t *h, size_t n);
 uint64_t twin_allocate(uint8_t *h, size_t n, uint64_t size);
 uint64_t twin_resize(uint8_t *h, size_t n, uint64_t address, uint64_t size);

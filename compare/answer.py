@@ -81,9 +81,10 @@ class Asked:
 
 def sample():
     """A heap of the console from before, with every kind of block, and with live and free items of a class that is closed now, and
-    with a block for a size of that class, which it then got; its length is no multiple of 8."""
+    with a block for a size of that class, which it then got. It began small and may still grow; the buffer's length is no multiple
+    of 8."""
     heap = Heap(bytearray(b"\x11" * 6001), BEFORE)
-    heap.initialise()
+    heap.initialise(1000)
     addresses = [heap.allocate(size)[1] for size in (300, 500, 280, 200, 199, 198, 197)]
     heap.free(addresses[1])
     heap.free(addresses[4])
@@ -102,10 +103,10 @@ def ask_everything(asked):
     asked.ask(TABLE)
     asked.ask(REPORT)
     asked.ask(FIRST_STEP)
-    for position in (*state.starts, state.end, 0, WIDE.index_page, WIDE.data_area + 8, 2**64 - 8):
+    for position in (*state.starts, state.end, state.end + 8, 0, WIDE.index_page, WIDE.data_area + 8, 2**64 - 8):
         asked.ask(STEP, position)
     for kind in (LOOK_UP, TURN_OVER, LOOK_UP):
-        for address in (*live, 0, live[0] + 8, free + 8, page + 8, state.lists[24][0] + 8, state.end, 2**64 - 1):
+        for address in (*live, 0, live[0] + 8, free + 8, page + 8, state.lists[24][0] + 8, state.end, state.end + 8, 2**64 - 1):
             asked.ask(kind, address)
 
 
@@ -126,9 +127,27 @@ def remarks():
         yield asked
 
 
+def grown():
+    """A heap that grew twice, and the same bytes with another end: at the border of its two blocks, at which it is a heap with one,
+    before the first, inside a block, at the buffer's end, and behind that; each with the same questions."""
+    heap = Heap(bytearray(b"\x11" * 1203))
+    granted(heap.initialise(WIDE.shortest))
+    first, second = granted(heap.allocate(300)), granted(heap.allocate(500))
+    for end in (heap.state.end, second - 8, WIDE.data_area, second, 1200, 1208):
+        data = bytearray(heap.data)
+        WIDE.words.pack_into(data, WIDE.stored_end, end)
+        asked = Asked(data)
+        for kind in (STATISTICS, REPORT):
+            asked.ask(kind)
+        for place in (first, second, 1200):
+            asked.ask(LOOK_UP, place)
+            asked.ask(STEP, place - 8)
+        yield asked
+
+
 def example():
-    """The sample, one that is damaged, one that is not opened, two that are too short, the remarks, and a question
-    that there is not."""
+    """The sample, one that is damaged, one that is not opened, two that are too short, the remarks, a heap that grew, and a
+    question that there is not."""
     sound = sample()
     damaged, closed = bytearray(sound), bytearray(sound)
     damaged[WIDE.data_area] ^= 8
@@ -138,6 +157,7 @@ def example():
     for asked in all_asked:
         ask_everything(asked)
     all_asked += remarks()
+    all_asked += grown()
     answers = "".join(answer for asked in all_asked for answer in asked.answers)
     none_such = NUMBER.pack(0) + NUMBER.pack(1) + bytes([TURN_OVER + 1]) + NUMBER.pack(0)
     return b"".join(asked.given() for asked in all_asked) + none_such, answers + NO_QUESTION

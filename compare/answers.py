@@ -15,7 +15,7 @@ from answer import (CUT_SHORT, FIRST_STEP, LOOK_UP, NO_QUESTION, NUMBER, REPORT,
                     Asked, sample)
 from heaps import Tally, enough_heaps, is_long, note, some_heaps
 from report import LONGEST_INPUT
-from second import SHAPES, VARIABLE, WIDE
+from second import SHAPES, VARIABLE, WIDE, end_of
 
 LIVE = ("live block", "live item", "older item")  # an older item is one whose size is not known
 HUGE = (2**32, 2**63, 2**64 - 8, 2**64 - 1)
@@ -26,6 +26,12 @@ def some(rng, places, most):
     """A few of these places, or none where there are none."""
     places = list(places)
     return rng.sample(places, min(most, len(places)))
+
+
+def room_behind(rng, state, base, length):
+    """Addresses behind the end of a heap that may grow, by their kind: of what was a record before the end was moved, and any."""
+    room = range(state.end, end_of(length), 8) if state.shape.grows else ()
+    return {"given up": some(rng, (a for a in base.live_addresses() if a in room), 2), "in the room to grow": some(rng, room, 1)}
 
 
 def addresses(rng, state, length):
@@ -61,17 +67,19 @@ def of_closed_classes(state):
             for item in state.items_of_page(page)}
 
 
-def ask_places(rng, asked, state, tally):
+def ask_places(rng, asked, state, base, tally):
     """Look-ups and single steps, at places of every kind."""
     unit, refused = asked.heap.shape.name, " in a refused heap" * (asked.heap.verdict != 0)
-    closed = of_closed_classes(state)
-    for what, found in addresses(rng, state, len(asked.start)).items():
+    closed, length = of_closed_classes(state), len(asked.start)
+    behind = room_behind(rng, state, base, length)
+    for what, found in (addresses(rng, state, length) | behind).items():
         for address in found:
             asked.ask(LOOK_UP, address)
             tally[f"{unit}: look-up, {what}{refused}"] += 1
             tally[f"{unit}: look-up, {what} of a closed class{refused}"] += address in closed
             tally[f"{unit}: look-up of less than it holds"] += not refused and state.shown(address) != state.capacity(address)
-    for what, found in positions(rng, state, len(asked.start)).items():
+    behind = {what: [address - state.shape.word for address in found] for what, found in behind.items()}
+    for what, found in (positions(rng, state, length) | behind).items():
         for position in found:
             asked.ask(STEP, position)
             tally[f"{unit}: step, {what}{refused}"] += 1
@@ -111,14 +119,14 @@ def ask_writing(rng, asked, state, tally):
 
 
 def ask_all(rng, what, data, state, tally):
-    asked = Asked(data)
+    asked, base = Asked(data), state
     note(tally, what, asked.heap)
     if asked.heap.state:
         state = asked.heap.state  # a change that leaves a heap sound may still change what is live
     asked.ask(STATISTICS)
     asked.ask(TABLE)
     asked.ask(REPORT)
-    ask_places(rng, asked, state, tally)
+    ask_places(rng, asked, state, base, tally)
     ask_walk(asked, state, tally)
     ask_writing(rng, asked, state, tally)
     asked.ask(STATISTICS)
@@ -191,9 +199,12 @@ def enough(count):
               "look-up of less than it holds": half // 5}
     old = {f"look-up, {what} of a closed class": half // 20 for what in ("live item", "older item", "free item")}
     old |= {"step, a page of a closed class": half // 5, "written, of a closed class": half // 20}
+    ends = {f"{call}, in the room to grow": half // 5 for call in ("look-up", "step")}
+    ends |= {f"{call}, given up": half // 20 for call in ("look-up", "step")}
+    ends |= {f"{call}, in the room to grow in a refused heap": half // 20 for call in ("look-up", "step")}
     return ({kind: count for kind in (LOOK_UP, STEP, FIRST_STEP, STATISTICS, TABLE, REPORT, TURN_OVER)}
             | {f"{shape}: {case}": number for shape in SHAPES for case, number in least.items()}
-            | {f"wide: {case}": number for case, number in old.items()} | enough_heaps(count))
+            | {f"wide: {case}": number for case, number in (old | ends).items()} | enough_heaps(count))
 
 
 def main(count, seed, command):

@@ -7,10 +7,11 @@
 "--shape hand" is for the hand unit's library. "--library bench/twin.c --prefix
 twin_" compares the plain C twin, and with "--shape hand --cflags=-DTWIN_WORD=4" the
 one for the hand unit. The driver is built below target/compare. The figures that are run come first, then the sizes
-that an item's header can have, then runs on a heap and a longer one, random runs
-on fresh heaps, on any sound ones and on old ones, made by the rule before classes were
-closed, and damaged heaps; two processes share them. A failure prints the calls up to the
-first one that differs, and the status is 1.
+that an item's header can have, then runs on a heap and on one in a longer buffer, both as long as
+their buffers or both with the same end to begin with, heaps that are swept above all, heaps that
+grow above all, random runs on fresh heaps, on any sound ones and on old ones, made by the rule
+before classes were closed, and damaged heaps; two processes share them. A failure prints the
+calls up to the first one that differs, and the status is 1.
 """
 
 import argparse
@@ -28,21 +29,21 @@ from itertools import repeat
 sys.dont_write_bytecode = True  # products belong below target/
 from damage import damaged
 from heaps import Tally
-from runs import (CALLS, HABITS, RESIZES, Player, Run, before, full_of_pages, random_run, run_and_longer, sound_heap, swept_heap,
-                  swept_run)
+from runs import (CALLS, HABITS, RESIZES, Player, Run, before, full_of_pages, grown_run, random_run, run_and_longer, sound_heap,
+                  swept_heap, swept_run)
 from second import FIGURES, HAND, SHAPES, VARIABLE, WIDE, Heap, played, sizes_of, start_of, used_header
 
 ROOT = os.path.dirname(os.path.dirname(os.path.abspath(__file__)))
 PRODUCTS = os.path.join(ROOT, "target", "compare")
 CHOST = os.path.join(ROOT, "tools", "chost")
 PREFIXES = {WIDE: "jagwibodu_", HAND: "jagwibodu_hand_"}  # of the calls in the header
-GUARD_FILL = b"\xa5"
 BATCH_BYTES = 16 << 20
 TIME_LIMIT = 120  # seconds for one batch, of which an emulator needs some
 STACK = struct.Struct("<QQQ")  # what the driver says last
 PARTS = 2  # processes side by side: each takes every second figure, class, run and group of damaged heaps
-PAIRS = 20  # runs on a heap and on a longer one
+PAIRS = 20  # runs on a heap and on a longer one; and, where heaps grow, as many on two that begin with the same end
 SWEPT_SHARE = 333  # for so many calls in random runs there is a heap that is swept above all
+GROWN_SHARE = 200  # and, where heaps grow, one that grows above all
 # Classes whose pages fill the longest heap, and which shares of these pages are in use: the most items that there can be, in
 # pages of which many are empty; and the most pages, which all stay or all go.
 SWEPT_PAGES = {WIDE: ((0, (0, 0.5, 0.9, 1)), (1, (0.1, 0.5, 0.9, 1)), (1, (0,)), (WIDE.closed[0], (0, 0.5, 0.9, 1))),
@@ -50,8 +51,8 @@ SWEPT_PAGES = {WIDE: ((0, (0, 0.5, 0.9, 1)), (1, (0.1, 0.5, 0.9, 1)), (1, (0,)),
 HEAPS_FROM_ONE, HEAPS_FROM_A_LONG_ONE = 25, 2  # damaged heaps made from the same sound one
 # For so many damaged heaps there is at least one call that is refused as not sound: of each form of resize, and of sweep.
 REFUSED_SHARES = dict.fromkeys(RESIZES, 4) | {"sweep": 1}
-# Ways by which one at least of so many damaged heaps must be made: to do with sizes in headers, with the smallest blocks, and with
-# the bytes of a word.
+# Ways by which one at least of so many damaged heaps must be made: to do with sizes in headers, with the smallest blocks, with the
+# bytes of a word, and with the heap's end and the buffer's.
 WAY_SHARE = 500
 ITEM_WAYS = ("size_not_known", "size_at_an_end_of_its_class", "size_of_its_class", "size_just_outside_its_class",
              "size_of_another_class", "huge_size", "two_wrong_sizes", "item_right_for_another_class")
@@ -61,6 +62,13 @@ BLOCK_WAYS = {WIDE: ("small_variable_block", "smallest_variable_block", "variabl
 WORD_WAYS = {WIDE: (), HAND: (
     "first_bytes_of_the_console", "used_item_of_a_class_of_the_console", "next_inside_a_word", "next_in_multiples_of_8",
     "rest_of_8", "spare_bytes_as_a_free_block", "neighbouring_words_swapped", "small_free_block", "lone_small_free_block")}
+END_WAYS = {HAND: (
+    "length_with_the_same_end", "buffer_that_ends_before_the_heap", "end_and_length_by_8", "longer_buffer", "end_too_low",
+    "end_inside_a_word", "end_behind_the_buffer", "huge_end", "end_in_a_block", "end_at_another_border")}
+END_WAYS[WIDE] = END_WAYS[HAND] + (
+    "end_in_the_room", "last_block_up_to_the_buffers_end", "block_behind_the_end", "free_block_behind_the_end",
+    "free_item_behind_the_end", "bytes_behind_the_end", "blocks_given_up", "block_added")
+BORDER_SHARE = 1500  # of so many one at least has its end at another border and is still sound, and one is not
 # Ways by which one at least of so many damaged heaps must be led to a page, an item or a list of a closed class.
 CLOSED_WAY_SHARE = 2500
 CLOSED_WAYS = {WIDE: ITEM_WAYS + (
@@ -120,14 +128,57 @@ CLOSED_SHARES = {
     "move: an item of a closed class goes to a block for a size of its own": 4000,
     "move: an item of a closed class goes to a block for another size": 4000,
     "move: an item of a closed class goes to an item for another size": 20000,
-    "move: 6 for an item of a closed class and a size of its own": 4000,
+    "move: 6 for an item of a closed class and a size of its own": 5000,
     "move: to a block where free items wait": 2500,
     "sweep: a page of a closed class is given back": 1000,
     "sweep: a page of a closed class stays, linked anew": 1000,
     "sweep: the last page of a closed class is given back": 2000,
 }
+# The same where heaps grow.
+GROWTH_SHARES = {
+    "initialise: the least end": 2000,
+    "initialise: an end between": 2000,
+    "initialise: the end of the buffer": 4000,
+    "initialise: room to grow, and the length is no multiple of 8": 1000,
+    "initialise: refused with 1 and a bad end": 50000,
+    "initialise: refused with 7 and a bad end": 1000,
+    "initialise: refused with 8": 3000,
+    "bytes behind the end are written": 250,
+    "an old heap grows": 400,
+    "allocate grows: a block is added for a block": 100,
+    "allocate grows: a block is added for a page": 1000,
+    "allocate grows: a block is added behind other free ones": 200,
+    "allocate grows: the last block is enlarged for a block": 500,
+    "allocate grows: the last block is enlarged for a page": 2000,
+    "allocate grows: the last block is enlarged behind other free ones": 2000,
+    "allocate grows: exactly to the buffer's end for a block": 1500,
+    "allocate grows: exactly to the buffer's end for a page": 10000,
+    "allocate: 6 with some room to grow": 30,
+    "allocate: 6 for want of 8 bytes to grow, for a block": 3000,
+    "allocate: 6 for want of 8 bytes to grow, for a page": 15000,
+    "move grows: a block is added for a block": 1000,
+    "move grows: a block is added for a page": 8000,
+    "move grows: a block is added behind other free ones": 2000,
+    "move grows: the last block is enlarged for a block": 4000,
+    "move grows: the last block is enlarged for a page": 30000,
+    "move grows: the last block is enlarged behind other free ones": 6000,
+    "move grows: exactly to the buffer's end for a block": 10000,
+    "move: 6 with some room to grow": 200,
+    "move: 6 for want of 8 bytes to grow, for a block": 30000,
+    "resize grows: a block is added for a block": 2000,
+    "resize grows: a block is added for a page": 8000,
+    "resize grows: the last block is enlarged for a block": 25000,
+    "resize grows: exactly to the buffer's end for a block": 25000,
+    "resize: a block that only a higher end would let stay: moves": 4000,
+    "resize: a block that only a higher end would let stay: 6": 2500,
+    "resize_in_place: a block that only a higher end would let stay: 6": 1500,
+    "free: the last block, and there is room to grow": 500,
+    "sweep: a page is given back, and there is room to grow": 600,
+    "sweep: the last block is given back, and there is room to grow": 4000,
+    "sweep: a page of a heap that grew is given back": 1000,
+}
 SHARES = {
-    WIDE: COMMON_SHARES | CLOSED_SHARES | {
+    WIDE: COMMON_SHARES | CLOSED_SHARES | GROWTH_SHARES | {
         "resize: an older item is kept": 2000,
         "sweep: a fuller page comes before a lower one": 1000,
         "sweep: unequal pages change places": 1000,
@@ -232,19 +283,19 @@ def check_run(run, answers, at, status):
             answer, ranges, at = read_answer(answers, at)
         except struct.error:
             raise Difference(run, index, [f"the call never answered (status of the driver: {status})"]) from None
-        outside = apply_ranges(got, ranges)
+        outside = apply_ranges(got, ranges, run.around)
         if answer != second or outside or wanted != got:
             raise Difference(run, index, describe(run.shape, second, answer, wanted, got, outside))
     return at
 
 
-def apply_ranges(got, ranges):
-    """Brings the mirror up to date; whether the guards were written to."""
+def apply_ranges(got, ranges, around):
+    """Brings the mirror up to date; whether the guards, which were these bytes, were written to."""
     outside_changed = False
     for offset, content in ranges:
         position, inside, outside = split_range(len(got), offset, content)
         got[position:position + len(inside)] = inside
-        outside_changed |= bool(outside.strip(GUARD_FILL))
+        outside_changed |= bool(outside.strip(around))
     return outside_changed
 
 
@@ -332,11 +383,14 @@ def count_calls(run, counts):
 
 
 def longer_runs(shape, seed, labels, counts):
-    """Pairs of a run and the same run on a longer heap."""
+    """Pairs of a run and the same run in a longer buffer; those with a label start:INDEX begin with the same end."""
     for label in labels:
-        shorter, longer = run_and_longer(generator(seed, label), shape, label)
-        counts["pairs"] += 1
-        counts["pairs: pages are given back"] += shorter.met["sweep: a page is given back"]
+        same_start = label.startswith("start:")
+        shorter, longer = run_and_longer(generator(seed, label), shape, label, same_start)
+        pairs = "pairs from the same end" if same_start else "pairs"
+        counts[pairs] += 1
+        counts[f"{pairs}: pages are given back"] += shorter.met["sweep: a page is given back"]
+        counts[f"{pairs}: the heap grows"] += shorter.heap.grown
         yield shorter
         yield longer
 
@@ -350,6 +404,16 @@ def swept_runs(shape, seed, labels, counts):
         check_second(run)
         counts.update({case: met for case, met in run.met.items() if case.startswith("sweep")})  # random runs shall meet the rest
         counts["swept"] += 1
+        yield run
+
+
+def grown_runs(shape, seed, labels, counts):
+    """Heaps that grow above all."""
+    for label in labels:
+        run = grown_run(generator(seed, label), shape, label)
+        check_second(run)
+        counts.update({case: met for case, met in run.met.items() if case in GROWTH_SHARES})  # the rest as above
+        counts["grown"] += 1
         yield run
 
 
@@ -382,6 +446,7 @@ def damaged_runs(shape, rng, label, counts):
         counts["still sound"] += still_sound
         counts[damage.way] += 1
         counts[f"{damage.way}, closed"] += damage.in_closed
+        counts[f"{damage.way}, {'still' if still_sound else 'not'} sound"] += damage.stays_sound is None
         yield run
 
 
@@ -400,7 +465,7 @@ def calls_on_damaged(rng, run):
     rng.shuffle(calls)
     for call in calls:
         call()
-    run.call("initialise")
+    run.initialise(player.end())
     run.call("check")
 
 
@@ -419,10 +484,12 @@ def one_run(shape, seed, label, counts):
         yield from figure_runs(shape, [label.removeprefix("figure:")], counts)
     elif label.startswith("sizes:"):
         yield from size_runs(shape, [int(label.removeprefix("sizes:"))], counts)
-    elif label.startswith("longer:"):
+    elif label.startswith(("longer:", "start:")):
         yield from longer_runs(shape, seed, [label], counts)
     elif label.startswith(("pages:", "swept:")):
         yield from swept_runs(shape, seed, [label], counts)
+    elif label.startswith("grown:"):
+        yield from grown_runs(shape, seed, [label], counts)
     elif label.startswith("run:"):
         yield random_run(rng, shape, label)
     else:
@@ -438,8 +505,12 @@ def part_of_runs(part, chosen, counts, damaged_counts):
     yield from figure_runs(shape, [*FIGURES[shape]][part::PARTS], counts)
     yield from size_runs(shape, range(shape.classes)[part::PARTS], counts)
     yield from longer_runs(shape, seed, itertools.islice(labels("longer"), PAIRS // PARTS), counts)
+    if shape.grows:
+        yield from longer_runs(shape, seed, itertools.islice(labels("start"), PAIRS // PARTS), counts)
     yield from swept_runs(shape, seed, [f"pages:{index}" for index in range(len(SWEPT_PAGES[shape]))][part::PARTS], counts)
     yield from swept_runs(shape, seed, itertools.islice(labels("swept"), chosen.number // SWEPT_SHARE // PARTS), counts)
+    if shape.grows:
+        yield from grown_runs(shape, seed, itertools.islice(labels("grown"), chosen.number // GROWN_SHARE // PARTS), counts)
     yield from random_runs(shape, seed, labels("run"), chosen.number / PARTS, counts)
     yield from all_damaged_runs(shape, seed, labels("damaged"), chosen.damaged / PARTS, damaged_counts)
 
@@ -469,14 +540,23 @@ def compare_side_by_side(program, chosen):
     return counts, damaged_counts, drivers
 
 
+def demand_growth(counts, damaged_counts, number):
+    """The same of what there is only where heaps grow."""
+    counts.demand({"pairs from the same end": PAIRS, "pairs from the same end: pages are given back": PAIRS,
+                   "pairs from the same end: the heap grows": 3 * PAIRS})
+    damaged_counts.demand({f"end_at_another_border, {verdict} sound": number // BORDER_SHARE for verdict in ("still", "not")})
+
+
 def demand_enough(shape, counts, damaged_counts):
     """Fails where some case was met too seldom."""
     counts.demand({case: counts["calls"] // share for case, share in SHARES[shape].items()})
     counts.demand({"pairs": PAIRS, "pairs: pages are given back": PAIRS})
     number = damaged_counts["damaged"]
     damaged_counts.demand({f"{call}: refused with 3": number // share for call, share in REFUSED_SHARES.items()})
-    damaged_counts.demand(dict.fromkeys(SIZE_WAYS + BLOCK_WAYS[shape] + WORD_WAYS[shape], number // WAY_SHARE))
+    damaged_counts.demand(dict.fromkeys(SIZE_WAYS + BLOCK_WAYS[shape] + WORD_WAYS[shape] + END_WAYS[shape], number // WAY_SHARE))
     damaged_counts.demand({f"{way}, closed": number // CLOSED_WAY_SHARE for way in CLOSED_WAYS[shape]})
+    if shape.grows:
+        demand_growth(counts, damaged_counts, number)
 
 
 def stack_used(drivers, calls, limit):
@@ -517,9 +597,13 @@ def main():
         demand_enough(chosen.shape, counts, damaged_counts)
     calls = counts["calls"] + damaged_counts["calls"]
     stack = stack_used(drivers, calls, chosen.stack)
+    pairs, growing = f"{counts['pairs']} runs on a heap and a longer one", ""
+    if chosen.shape.grows:
+        pairs += f" and {counts['pairs from the same end']} from the same end"
+        growing = f" and {counts['grown']} that grow"
     print(f"compare: {chosen.shape.name}: {counts['figures']} figures, {counts['sizes']} sizes in headers, and from seed {chosen.seed} "
-          f"{counts['pairs']} runs on a heap and a longer one, {counts['swept']} heaps that are swept above all, {calls} calls on "
-          f"{counts['heaps']} heaps ({counts['old heaps']} of them old) and {damaged_counts['damaged']} damaged heaps "
+          f"{pairs}, {counts['swept']} heaps that are swept{growing} above all, {calls} calls on {counts['heaps']} heaps "
+          f"({counts['old heaps']} of them old) and {damaged_counts['damaged']} damaged heaps "
           f"({damaged_counts['still sound']} of them still sound) agree, {stack}, {time.monotonic() - began:.0f} s")
     counts.update(damaged_counts)
     print("compare: among them " + ", ".join(f"{counts[case]} of '{case}'" for case in SHARES[chosen.shape]))

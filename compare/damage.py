@@ -8,9 +8,10 @@ closed classes, every second patient is damaged in these.
 
 from typing import NamedTuple
 
-from second import FREE, HAND, PAGE, SHAPES, VARIABLE, WIDE, Heap, end_of, free_header, sizes_of, used_header
+from second import FREE, HAND, PAGE, SHAPES, VARIABLE, WIDE, Heap, State, end_of, free_header, sizes_of, used_header
 
 WAYS = {shape: [] for shape in SHAPES.values()}  # (way, verdict): True stays sound, False becomes unsound, None as it happens
+GROWING = [shape for shape in SHAPES.values() if shape.grows]
 
 
 def way(stays_sound, shapes=SHAPES.values()):
@@ -103,6 +104,20 @@ class Patient:
         self.state.add_block(position + first[1], *second)
         self.heap.lay_out_whole()
 
+    def room(self):
+        """How many bytes there are behind the end for the heap to grow."""
+        return end_of(len(self.data)) - self.state.end
+
+    def end_at(self, end):
+        self.put(self.shape.stored_end, end)
+
+    def end_elsewhere(self, ends):
+        """Another end, one of these; none where there is no other."""
+        ends = [end for end in ends if end != self.state.end]
+        if not ends:
+            return False
+        self.end_at(self.rng.choice(ends))
+
     def link_blocks(self, order):
         """Links the free list through these blocks in this order, both ways."""
         self.put(self.shape.first_free, order[0] if order else 0)
@@ -120,28 +135,182 @@ def first_bytes(p):
 
 @way(False)
 def fixed_word(p):
-    p.spoil(p.rng.choice([*p.shape.fixed_words(p.state.end)]))
-
-
-@way(False)
-def another_length(p):
-    if p.rng.random() < 0.5:
-        p.data += p.rng.randbytes(8)
-    else:
-        del p.data[-8:]
-
-
-@way(False)
-def stored_end_and_length(p):
-    another_length(p)
-    p.put(p.shape.stored_end, end_of(len(p.data)))
+    p.spoil(p.rng.choice([*p.shape.fixed_words]))
 
 
 @way(True)
 def length_with_the_same_end(p):
+    """The buffer ends where the heap does, or less than 8 bytes behind that."""
     del p.data[p.state.end:]
     if len(p.data) < p.shape.longest:
         p.data += p.rng.randbytes(p.rng.randrange(8))
+
+
+@way(False)
+def buffer_that_ends_before_the_heap(p):
+    """Often so little that only bytes which are 0 are missing of the last tag."""
+    del p.data[p.state.end - p.rng.choice((1, 4, 5, 8, 8, 16)):]
+
+
+@way(False)
+def end_and_length_by_8(p):
+    """Both agree, and the blocks do not."""
+    del p.data[p.state.end:]
+    if p.rng.random() < 0.5:
+        p.data += p.rng.randbytes(8)
+    else:
+        del p.data[-8:]
+    p.end_at(len(p.data))
+
+
+def longer_buffer(p):
+    """More bytes behind the end, which are nobody's."""
+    p.data += p.rng.randbytes(min(p.shape.longest - len(p.data), p.rng.choice((8, 8, 16, p.rng.randint(8, 5000)))))
+    return end_of(len(p.data)) > p.state.end
+
+
+way(True, GROWING)(longer_buffer)  # which the heap may take
+way(False, [HAND])(longer_buffer)  # here a heap takes its whole buffer
+
+
+# The end, beside which all is right: of a heap that grows, as far as the buffer goes, and else only the buffer's.
+
+@way(False)
+def end_too_low(p):
+    p.end_at(p.rng.choice((0, 8, p.shape.index_page, p.shape.data_area, p.shape.shortest - 8, p.shape.shortest - 8)))
+
+
+@way(False)
+def end_inside_a_word(p):
+    p.end_at(p.rng.choice((p.state.end, p.state.end - 8, p.shape.shortest)) + p.rng.choice((1, 2, 4, 4, 7)))
+
+
+@way(False)
+def end_behind_the_buffer(p):
+    end = end_of(len(p.data))
+    p.end_at(p.rng.choice((end + 8, end + 8, end + 16, end + p.rng.randint(1, 7), 2 * end, p.shape.longest + 8)))
+
+
+@way(False)
+def huge_end(p):
+    bits, end = p.bits, p.state.end
+    p.end_at(p.rng.choice((end + 2**(bits - 1), end + 2**(bits // 2), 2**bits - 8, 2**bits - end, 2**(bits - 1))))
+
+
+@way(False)
+def end_in_a_block(p):
+    """Where none begins."""
+    return p.end_elsewhere([end for end in range(p.shape.shortest, p.state.end, 8) if end not in p.state.blocks])
+
+
+def end_at_another_border(p):
+    """Where nothing behind it is free, and so on a list, what is before it is a heap by itself; half of the time this is sought."""
+    ends = [end for end in p.state.starts if end >= p.shape.shortest]
+    last_free = max([*p.state.free, *(item for items in p.state.lists for item in items)], default=0)
+    whole = [end for end in ends if end > last_free]
+    return p.end_elsewhere(whole if whole and p.rng.random() < 0.5 else ends)
+
+
+way(None, GROWING)(end_at_another_border)
+way(False, [HAND])(end_at_another_border)
+
+
+@way(None, GROWING)
+def end_in_the_room(p):
+    """Behind the last block, often where the buffer ends."""
+    ends = range(p.state.end + 8, end_of(len(p.data)) + 1, 8)
+    return p.end_elsewhere(p.rng.choice((ends, ends[-1:])))
+
+
+@way(False, GROWING)
+def last_block_up_to_the_buffers_end(p):
+    """The blocks reach as far as the buffer, and the end does not."""
+    if not p.room():
+        return False
+    block = p.state.starts[-1]
+    kind, size = p.state.blocks[block]
+    previous = p.get(p.state.previous_link(block))
+    p.put_tags(block, size + p.room(), kind)
+    if kind == FREE:
+        p.put(block + size + p.room() - 2 * p.shape.word, previous)
+
+
+def room_as_a_block(p, kind):
+    """What is behind the end looks like a block that the heap does not know."""
+    if p.room() < p.shape.smallest_variable:
+        return False
+    p.put_tags(p.state.end, p.room(), kind)
+
+
+@way(True, GROWING)
+def block_behind_the_end(p):
+    """It even names the last free block."""
+    if room_as_a_block(p, p.rng.choice((FREE, VARIABLE, PAGE))) is False:
+        return False
+    p.put(p.state.end + p.shape.word, 0)
+    p.put(p.state.end + p.room() - 2 * p.shape.word, p.state.free[-1] if p.state.free else 0)
+
+
+@way(False, GROWING)
+def free_block_behind_the_end(p):
+    """As above, and the free list names it too."""
+    if room_as_a_block(p, FREE) is False:
+        return False
+    last = p.state.free[-1] if p.state.free else 0
+    p.put(p.state.end + p.shape.word, 0)
+    p.put(p.state.end + p.room() - 2 * p.shape.word, last)
+    p.put(p.state.next_link(last) if last else p.shape.first_free, p.state.end)
+
+
+@way(False, GROWING)
+def free_item_behind_the_end(p):
+    """A list ends with an item that is none of the heap's, in a page that is none of them."""
+    c = p.rng.choice(p.preferred(range(p.shape.classes), lambda c: c))
+    if room_as_a_block(p, PAGE) is False:
+        return False
+    item = p.state.end + p.shape.word
+    p.put(item, free_header(c, 0))
+    if p.state.lists[c]:
+        p.put_next(p.state.lists[c][0], item - p.shape.index_page)
+    else:
+        p.put(p.shape.head(c), item - p.shape.index_page)
+
+
+@way(True, GROWING)
+def bytes_behind_the_end(p):
+    if not p.room():
+        return False
+    p.data[p.state.end:] = p.rng.randbytes(len(p.data) - p.state.end)
+
+
+@way(True, GROWING)
+def blocks_given_up(p):
+    """The heap ends where one of its blocks began; those behind stay as bytes, and nothing names them."""
+    ends = [end for end in p.state.starts if end >= p.shape.shortest]
+    if not ends:
+        return False
+    old, end = p.state, p.rng.choice(ends)
+    p.heap.state = p.state = State(p.shape, end)
+    for position in [position for position in old.starts if position < end]:
+        p.state.add_block(position, *old.blocks[position])
+    p.state.page_class = {page: c for page, c in old.page_class.items() if page < end}
+    p.state.item_class = {item: c for item, c in old.item_class.items() if item < end}
+    p.state.asked = {item: size for item, size in old.asked.items() if item < end}
+    p.state.lists = [[item for item in items if item < end] for items in old.lists]
+    p.heap.lay_out_whole()
+
+
+@way(True, GROWING)
+def block_added(p):
+    """The heap has another block, up to the buffer's end or not that far."""
+    kind = VARIABLE if p.state.is_free(p.state.starts[-1]) or p.rng.random() < 0.5 else FREE
+    least = p.shape.smallest_free if kind == FREE else p.shape.smallest_variable
+    if p.room() < least:
+        return False
+    size = p.rng.choice((least, p.room(), 8 * p.rng.randint(least // 8, p.room() // 8)))
+    p.state.add_block(p.state.end, kind, size)
+    p.state.end += size
+    p.heap.lay_out_whole()
 
 
 # Tags, sizes and kinds.
@@ -666,8 +835,8 @@ def named_words(p):
     state, word = p.state, p.shape.word
     block = p.any_block()
     size = state.blocks[block][1]
-    found = [*sorted([p.shape.first_free, *p.shape.fixed_words(state.end)]), p.shape.head(p.rng.randrange(p.shape.classes)),
-             block, block + size - word, block + word, block + size - 2 * word]
+    found = [*sorted([p.shape.first_free, p.shape.stored_end, *p.shape.fixed_words]),
+             p.shape.head(p.rng.randrange(p.shape.classes)), block, block + size - word, block + word, block + size - 2 * word]
     if state.page_class:
         found += p.rng.choices(state.items_of_page(p.rng.choice(list(state.page_class))), k=4)
     return found

@@ -3,9 +3,11 @@
    calls are those of the hand unit.
 
    Commands, all numbers 8-byte little-endian words:
-     S shift length BYTES   the lent buffer is now these bytes, at an address that is "shift" past a multiple of 8
+     S shift length BYTES   the lent buffer is now these bytes, at an address that is "shift" past a multiple of 8;
+                            outside it all bytes are 0 where "shift" is odd, and else FILL, until a call changes them
      P offset count BYTES   writes into the buffer
-     I / C                  initialise / check
+     I end                  initialise; of the hand unit, which does not grow, I alone
+     C                      check
      A size                 allocate
      R address size         resize
      H address size         resize in place ("here")
@@ -14,16 +16,20 @@
      W                      sweep
    Answer to each call: its own answer, and for each range its offset from the buffer's start (as a signed
    number), its length and its new bytes, which may have unchanged ones among them; a range of length 0
-   comes last. Outside the buffer all bytes are FILL until a call changes them.
+   comes last.
    At the end: of how many calls the stack was measured, the most bytes of it that one used, and the header's STACK. */
 #ifdef HAND_UNIT
 #include "../include/jagwibodu_hand.h"
 #define CALL(name) jagwibodu_hand_##name
+#define INITIALISE(heap, length, end) jagwibodu_hand_initialise(heap, length)
+#define WITH_A_NUMBER "ARHMF" /* calls */
 #define STACK JAGWIBODU_HAND_STACK
 #define LONG 4096 /* bytes of a heap that is long for this unit */
 #else
 #include "../include/jagwibodu.h"
 #define CALL(name) jagwibodu_##name
+#define INITIALISE jagwibodu_initialise
+#define WITH_A_NUMBER "IARHMF"
 #define STACK JAGWIBODU_STACK
 #define LONG 65536
 #endif
@@ -81,7 +87,7 @@ static void set_heap(void)
     if (shift > 7 || length > LONGEST)
         fail("no such buffer");
     heap = arena + GUARD + shift;
-    memset(arena, FILL, used_arena());
+    memset(arena, shift % 2 ? 0 : FILL, used_arena());
     read_bytes(heap, length);
     memcpy(shadow, arena, used_arena());
 }
@@ -219,7 +225,7 @@ static __attribute__((noinline)) uint64_t called(int command, uint64_t first, ui
         paint();
     switch (command) {
     case 'I':
-        result = CALL(initialise)(heap, length);
+        result = INITIALISE(heap, length, first);
         break;
     case 'C':
         result = CALL(check)(heap, length);
@@ -251,7 +257,7 @@ static __attribute__((noinline)) uint64_t called(int command, uint64_t first, ui
 
 static void call(int command)
 {
-    uint64_t first = strchr("ARHMF", command) ? read_word() : 0;
+    uint64_t first = strchr(WITH_A_NUMBER, command) ? read_word() : 0;
     uint64_t second = strchr("RHM", command) ? read_word() : 0;
 
     answer(called(command, first, second));

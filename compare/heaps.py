@@ -4,9 +4,9 @@ import itertools
 import sys
 from collections import Counter
 
-from damage import Patient, bytes_that_may_be_anything, damaged
+from damage import Patient, blocks_given_up, bytes_that_may_be_anything, damaged
 from runs import HABITS, heap_with_old_pages, other_magic, sound_heap, what_is_old
-from second import HAND, SHAPES, WIDE, Heap
+from second import HAND, NOT_SOUND, SHAPES, WIDE, Heap, end_of
 
 # Damaged heaps made from the same sound one: by a way that leaves it sound, by one that does not, and by any; of a long one only
 # one of them.
@@ -41,11 +41,21 @@ def changed(rng, shape, data):
     return bytes(patient.data)
 
 
+def with_fewer_blocks(rng, shape, data):
+    """The same with its end where a block began, or as it is where that cannot be; what is behind still looks like blocks."""
+    patient = Patient(rng, shape, data)
+    blocks_given_up(patient)
+    return bytes(patient.data)
+
+
 def some_from(rng, shape, base):
-    """A sound heap, the same with other payloads, as one of the other shape, and damaged ones, each with a word for what it is."""
+    """A sound heap, the same with other payloads, as one of the other shape, with an end further down, and damaged ones, each
+    with a word for what it is."""
     yield "sound", base
     yield "payloads changed", changed(rng, shape, base)
     yield "of the other shape", other_magic(shape) + base[8:]
+    if shape.grows:
+        yield "with fewer blocks", with_fewer_blocks(rng, shape, base)
     for verdict in rng.sample(VERDICTS, 1 if is_long(shape, base) else len(VERDICTS)):
         yield "damaged", damaged(rng, shape, base, verdict).data
 
@@ -78,6 +88,25 @@ def some_heaps(rng, count):
             yield what, data, state
 
 
+def what_of_the_end(heap):
+    """How the end stands of a heap that may grow: of a sound one, and of one that is refused."""
+    if not heap.shape.grows or heap.verdict not in (0, NOT_SOUND):
+        return
+    end, buffer_end = heap.word_at(heap.shape.stored_end), end_of(len(heap.data))
+    if heap.verdict == NOT_SOUND:
+        if not heap.shape.may_end(len(heap.data), end):
+            yield "refused, and no heap may end there"
+        elif end < buffer_end:
+            yield "refused, and there would be room to grow"
+    elif end < buffer_end:
+        yield "room to grow"
+        yield f"room to grow behind a {'free' if heap.state.is_free(heap.state.starts[-1]) else 'used'} block"
+        if end == heap.shape.shortest:
+            yield "the least end"
+    else:
+        yield "no room to grow"
+
+
 def note(tally, what, heap):
     """Counts a heap by what it is and by what the check says of it, and each with its shape."""
     granted = heap.verdict == 0
@@ -85,20 +114,25 @@ def note(tally, what, heap):
              "damaged and still sound": granted and what == "damaged",
              "items with and without a size": granted and 0 < len(heap.state.asked) < len(heap.state.item_class)}
     cases |= dict.fromkeys(what_is_old(heap.state) if granted else (), True)
+    cases |= dict.fromkeys(what_of_the_end(heap), True)
     for case, met in cases.items():
         tally[case] += met
         tally[f"{heap.shape.name}: {case}"] += met
 
 
 def enough_heaps(count):
-    """What `demand` asks of so many heaps, half of them of either shape; of these some of the console's have old pages."""
+    """What `demand` asks of so many heaps, half of them of either shape; of these some of the console's have old pages, and some
+    have room to grow."""
     half = count // 2
-    least = {"sound": half // 8, "payloads changed": half // 8, "of the other shape": half // 8, "granted": half // 3,
+    least = {"sound": half // 10, "payloads changed": half // 10, "of the other shape": half // 10, "granted": half // 3,
              "refused": half // 3, "refused with 1": 8, "refused with 3": half // 4, "damaged and still sound": half // 20,
              "items with and without a size": half // 200}
     old = dict.fromkeys(("a full page of a closed class", "a half-full page of a closed class", "an empty page of a closed class",
                          "pages of several closed classes", "pages of closed and of offered classes",
                          "pages of closed classes, blocks and free blocks", "an older item of a closed class"), half // 100)
+    ends = {"with fewer blocks": half // 10, "room to grow": half // 8, "room to grow behind a free block": half // 20,
+            "room to grow behind a used block": half // 20, "the least end": half // 200, "no room to grow": half // 12,
+            "refused, and no heap may end there": half // 50, "refused, and there would be room to grow": half // 25}
     return ({"heaps": count, "wide: refused with 2": 6}  # none of the hand unit's: its first bytes tell that it is one
-            | {f"wide: {case}": number for case, number in old.items()}
+            | {f"wide: {case}": number for case, number in (old | ends).items()}
             | {f"{shape}: {case}": number for shape in SHAPES for case, number in least.items()})

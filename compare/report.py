@@ -9,12 +9,18 @@ import bisect
 import sys
 
 sys.dont_write_bytecode = True
-from second import BEFORE, FREE, HAND, PAGE, VARIABLE, WIDE, Heap, item_capacity, shape_of, used_header
+from second import BEFORE, FREE, HAND, PAGE, VARIABLE, WIDE, Heap, end_of, item_capacity, shape_of, used_header
 
 NAMES = {1: "bad length", 2: "not opened", 3: "not sound"}
 STATISTICS = ("free bytes", "free blocks", "largest free block", "variable blocks", "pages", "live items")
 CHARACTERS, COLUMNS = 1024, 64
 LONGEST_INPUT = WIDE.longest  # so much the program reads, and no heap is longer
+
+
+def end_lines(heap):
+    """Where the heap ends and how far it may grow, of one that may."""
+    end = heap.state.end
+    return [f"end {end}", f"room to grow {end_of(len(heap.data)) - end}"] if heap.shape.grows else []
 
 
 def class_lines(shape, table):
@@ -71,7 +77,7 @@ def report(heap):
         return said + [f"the input is too long: more than {LONGEST_INPUT} bytes"] * (len(heap.data) > LONGEST_INPUT)
     state = heap.state
     payloads = [f"{a} {state.capacity(a)} {state.shown(a)}" for a in sorted(state.live_addresses())]
-    return (said + ["", "statistics"] + [f"{name} {n}" for name, n in zip(STATISTICS, six)]
+    return (said + end_lines(heap) + ["", "statistics"] + [f"{name} {n}" for name, n in zip(STATISTICS, six)]
             + ["", "classes: class, item size, pages, live items, free items; closed: no more are handed out"]
             + class_lines(heap.shape, table)
             + ["", "blocks: position, size, what it is"] + block_lines(heap)
@@ -92,11 +98,12 @@ def forget(heap, address):
 
 
 def sample():
-    """The console's, begun by the rule before. Free and variable blocks, and pages that are full, half full, nearly empty and
-    empty, of closed classes and of others; its length is no multiple of 8. The items are for sizes of their class in turn, from
-    the greatest down; of one the size is not known."""
-    heap = Heap(bytearray(37001), BEFORE)
-    granted(heap.initialise())
+    """The console's, begun by the rule before, as small as may be. It grew, and may grow on; what is behind its end is none of its
+    business. Free and variable blocks, and pages that are full, half full, nearly empty and empty, of closed classes and of others;
+    the buffer's length is no multiple of 8. The items are for sizes of their class in turn, from the greatest down; of one the size
+    is not known."""
+    heap = Heap(bytearray(36400) + b"\x12" * 601, BEFORE)
+    granted(heap.initialise(WIDE.shortest))
     take = lambda size, count=1: [granted(heap.allocate(size - i % 8)) for i in range(count)]
     large = take(300) + take(1000)
     full = take(256, 16)

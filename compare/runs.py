@@ -4,14 +4,15 @@ import struct
 from collections import Counter
 from typing import NamedTuple
 
-from second import (BAD_LENGTH, BEFORE, FREE, GRANTED, HAND, ITEM_FREE, ITEM_IN_USE, NO_ROOM, PAGE, SHAPES, VARIABLE, WIDE, Heap,
-                    Shape, State, class_of, end_of, free_header, sizes_of, used_header)
+from second import (ALREADY, BAD_LENGTH, BEFORE, FREE, GRANTED, HAND, ITEM_FREE, ITEM_IN_USE, NO_ROOM, PAGE, SHAPES, VARIABLE, WIDE,
+                    Heap, Shape, State, class_of, end_of, free_header, sizes_of, used_header)
 
 NUMBER = struct.Struct("<Q")  # in commands; the heap's words are the shape's
 CALLS = {"initialise": b"I", "check": b"C", "allocate": b"A", "resize": b"R", "resize_in_place": b"H", "move": b"M",
          "free": b"F", "sweep": b"W"}
 RESIZES = ("resize", "resize_in_place", "move")  # the forms that a resize has
 CALLS_OF_A_PAIR = 250
+GUARD_FILL = b"\xa5"
 
 
 def near_overflow(bits):
@@ -43,6 +44,31 @@ def bad_lengths(shape):
             shape.longest + 1, shape.longest + 8, shape.longest + 24, *others)
 
 
+# How likely the least end is, a small one, any, one near the buffer's, or that: of a heap that shall grow, and of one with blocks.
+FRESH_ENDS, INVENTED_ENDS = (30, 20, 20, 10, 20), (2, 8, 30, 15, 45)
+
+
+def good_end(rng, shape, length, likely=FRESH_ENDS):
+    """An end to ask for in a buffer of this length; none where the heap does not grow."""
+    if not shape.grows:
+        return None
+    least = shape.shortest // 8
+    most = max(least, length // 8)
+    near = min(40, most - least)
+    ends = least, least + rng.randint(0, near), rng.randint(least, most), most - rng.randint(0, near), most
+    return 8 * rng.choices(ends, likely)[0]
+
+
+def bad_end(rng, shape, length):
+    """The same, but too low, too high, no multiple of 8, or huge."""
+    end, good = end_of(length), good_end(rng, shape, length)
+    if good is None:
+        return None
+    return rng.choice((0, 8, shape.data_area, shape.shortest - 8, shape.shortest - 4, shape.shortest - 1,
+                       end + 8, end + 8, end + 16, end + rng.randint(1, 7), shape.longest + 8,
+                       good + rng.randint(1, 7), good + 4, good + 2**32, good + 2**63, 2**64 - good, *near_overflow(64)))
+
+
 class Habits(NamedTuple):
     """How long the heaps of random runs are, and the blocks in them: what is little for one shape is much for the other.
     Lengths are ranges, from and to."""
@@ -53,6 +79,7 @@ class Habits(NamedTuple):
     usual: tuple
     long: tuple
     swept: tuple  # heaps that are swept above all
+    grown: tuple  # buffers in which heaps grow above all; none where they do not
     paired: tuple  # heaps whose runs are run on a longer one too
     longer: int  # at most by so much
     block: int  # most blocks are for sizes up to this
@@ -63,11 +90,12 @@ HABITS = {
     WIDE: Habits(tiny=(WIDE.shortest, 700), first_page=(4430, 4570),
                  played=((5000, 20000), (20000, 131072), (131072, WIDE.longest)),
                  short=(WIDE.shortest, 4600), usual=(4600, 30000), long=(150000, WIDE.longest),
-                 swept=(5000, 60000), paired=(4600, 40000), longer=30000, block=2000, invented_block=2400),
+                 swept=(5000, 60000), grown=((600, 2000), (4440, 6000), (4600, 16000)),
+                 paired=(4600, 40000), longer=30000, block=2000, invented_block=2400),
     HAND: Habits(tiny=(HAND.shortest, 200), first_page=(120, 380),
                  played=((200, 1500), (1500, 10000), (10000, HAND.longest)),
                  short=(HAND.shortest, 400), usual=(400, 4000), long=(15000, HAND.longest),
-                 swept=(400, 6000), paired=(400, 4000), longer=4000, block=600, invented_block=800),
+                 swept=(400, 6000), grown=(), paired=(400, 4000), longer=4000, block=600, invented_block=800),
 }
 HABITS[BEFORE] = HABITS[WIDE]
 
@@ -128,6 +156,25 @@ def what_came_of_block(old, new):
     """How a block stayed for a size of a closed class."""
     change = "is left" if old.capacity == new.capacity else "shrinks" if old.capacity > new.capacity else "grows"
     return f"a block {change} for a size of a closed class"
+
+
+class Growth(NamedTuple):
+    """How a heap has to grow, if nothing is free for a size."""
+    block: int  # where the free block then stands
+    need: int
+    for_page: bool
+    enlarges: bool  # the last block, which is free
+    behind_free: bool  # whether another free block comes before it
+    beyond: int  # by how much it would pass the buffer's end, or less than 0
+
+    def what_came(self):
+        """Of a heap that grew so."""
+        how, what = "the last block is enlarged" if self.enlarges else "a block is added", "page" if self.for_page else "block"
+        yield f"{how} for a {what}"
+        if self.behind_free:
+            yield f"{how} behind other free ones"
+        if self.beyond == 0:
+            yield f"exactly to the buffer's end for a {what}"
 
 
 def where_given_back(state):
@@ -202,6 +249,7 @@ class Run:
     def __init__(self, shape, label, start, shift, origin):
         self.shape = shape
         self.label = label
+        self.around = b"\x00" if shift % 2 else GUARD_FILL  # what the bytes outside the buffer are
         self.origin = origin  # what the bytes at the start are, in a word
         self.start = bytes(start)
         self.heap = Heap(bytearray(start), shape)
@@ -217,6 +265,13 @@ class Run:
         state = self.heap.state
         return {(page, c) for page, c in state.page_class.items() if c in self.shape.closed} if state else set()
 
+    def buffer_end(self):
+        return end_of(len(self.heap.data))
+
+    def may_grow(self):
+        """Whether there is a heap, and room behind its end."""
+        return self.heap.state is not None and self.heap.state.end < self.buffer_end()
+
     def call(self, name, *arguments):
         """Lets the second program answer, and the library be asked."""
         refusal, address = getattr(self.heap, name)(*arguments)
@@ -228,11 +283,59 @@ class Run:
 
     def do(self, name, *arguments):
         """A step of a figure: a call, or a word put by hand."""
+        if name == "initialise":
+            return self.initialise(*arguments)
         if name != "put":
             return self.call(name, *arguments)
         position, value = arguments
         self.poke_word(position, value)
         return self.heap.put(position, value)
+
+    def initialise(self, end=None):
+        """Asks for an end where the shape grows, for the buffer's if none is told; and counts what came of it."""
+        if not self.shape.grows:
+            return self.call("initialise")
+        end = self.buffer_end() if end is None else end
+        refusal, _ = answer = self.call("initialise", end)
+        if refusal:
+            bad = "" if self.shape.may_end(len(self.heap.data), end) else " and a bad end"
+            self.met[f"initialise: refused with {refusal}{bad * (refusal in (BAD_LENGTH, ALREADY))}"] += 1
+        else:
+            least, most = end == self.shape.shortest, end == self.buffer_end()
+            self.met[f"initialise: {'the least end' if least else 'the end of the buffer' if most else 'an end between'}"] += 1
+            self.met["initialise: room to grow, and the length is no multiple of 8"] += not most and len(self.heap.data) % 8 > 0
+        return answer
+
+    def growth(self, size):
+        """How the heap has to grow if nothing is free for a size; none where there is no heap, or no end to ask for."""
+        state, shape = self.heap.state, self.shape
+        if not state or not shape.grows:
+            return None
+        enlarges = state.is_free(state.starts[-1])
+        block = state.starts[-1] if enlarges else state.end
+        for_page = size <= shape.largest_item
+        need = shape.page_size(class_of(size)) if for_page else shape.block_size(size)
+        return Growth(block, need, for_page, enlarges, len(state.free) > enlarges, block + need - self.buffer_end())
+
+    def count_growth(self, name, growth, had, refusal):
+        """Counts how the heap grew by a call, before which it had grown so often and had to grow so; or why it did not."""
+        if self.heap.grown > had:
+            self.met.update(f"{name} grows: {case}" for case in growth.what_came())
+            self.met["an old heap grows"] += bool(self.old_pages)
+        elif growth and refusal == NO_ROOM and self.may_grow() and growth.beyond > 0:
+            what = "page" if growth.for_page else "block"
+            self.met[f"{name}: 6 with some room to grow"] += 1
+            self.met[f"{name}: 6 for want of 8 bytes to grow, for a {what}"] += growth.beyond == 8
+
+    def last_block(self, address, size):
+        """Whether the record is a block that could stay and have this size, if only the heap's end moved."""
+        state, position = self.heap.state, address - self.shape.word
+        if self.record(address) is None or position not in state.blocks or size <= self.shape.largest_item:
+            return False
+        behind = position + state.blocks[position][1]
+        if state.is_free(behind):
+            behind += state.blocks[behind][1]
+        return behind == state.end < position + self.shape.block_size(size) <= self.buffer_end()
 
     def record(self, address):
         """The record at an address; none where there is none, or no heap."""
@@ -246,17 +349,23 @@ class Run:
         return bool(state and c in self.shape.closed and state.lists[c])
 
     def allocate(self, size):
-        """Allocates, and counts where free items of the size's class wait."""
-        waits = self.waits(size)
+        """Allocates, and counts where free items of the size's class wait, and where the heap grows."""
+        waits, growth, had = self.waits(size), self.growth(size), self.heap.grown
         refusal, address = self.call("allocate", size)
+        self.count_growth("allocate", growth, had, refusal)
         self.met["allocate: 6 where free items wait" if refusal else "allocate: a block where free items wait"] += waits
         return refusal, address
 
     def resize(self, form, address, size):
         """Calls one of the forms of resize and counts what came of it."""
-        old, waits = self.record(address), self.waits(size)
+        old, waits, is_last = self.record(address), self.waits(size), self.last_block(address, size)
+        growth, had = self.growth(size), self.heap.grown
         refusal, new = self.call(form, address, size)
         record, moved = self.record(new), new != address
+        self.count_growth(form, growth, had, refusal if form != "resize_in_place" else GRANTED)
+        if is_last:
+            came = "6" if refusal else "moves" if moved else "is kept"
+            self.met[f"{form}: a block that only a higher end would let stay: {came}"] += 1
         self.met[f"{form}: {what_came(refusal, size, old, record, moved)}"] += 1
         if old and old.is_closed() and refusal in (GRANTED, NO_ROOM):
             self.met[f"{form}: {what_came_of_closed(size, old, record, moved)}"] += 1
@@ -277,8 +386,9 @@ class Run:
 
     def free(self, address):
         """Frees, and counts what was there."""
-        old = self.record(address)
+        old, is_last = self.record(address), self.may_grow() and address == self.heap.state.starts[-1] + self.shape.word
         refusal, _ = self.call("free", address)
+        self.met["free: the last block, and there is room to grow"] += not refusal and is_last
         self.met[f"free: refused with {refusal}" if refusal else f"free: {old.what()}"] += 1
         self.met["free: an item of a closed class"] += not refusal and old.is_closed()
         return refusal
@@ -287,6 +397,11 @@ class Run:
         """Sweeps, and counts each case that it met once."""
         state = self.heap.state
         cases, old_lists = set(where_given_back(state) if state else ()), state and state.lists
+        if cases and self.may_grow():
+            of_growth = cases & {"a page is given back", "the last block is given back"}
+            cases |= {f"{case}, and there is room to grow" for case in of_growth}
+        if cases and self.heap.grown:
+            cases.add("a page of a heap that grew is given back")
         had_closed = bool(self.pages_of_closed_classes())
         refusal, pages = self.call("sweep")
         self.met["sweeps"] += 1
@@ -316,6 +431,7 @@ class Run:
 
     def poke(self, position, content):
         """Writes bytes from outside; the caller sees to decoding where it is needed."""
+        self.met["bytes behind the end are written"] += self.may_grow() and position >= self.heap.state.end
         self.heap.data[position:position + len(content)] = content
         self.commands += struct.pack("<cQQ", b"P", position, len(content)) + content
         self.steps.append(Step("poke", position, content, None))
@@ -340,7 +456,9 @@ def old_length(rng, shape):
 
 
 def garbage(rng, shape, length):
-    """What a lent buffer may hold before it is initialised."""
+    """What a lent buffer may hold before it is initialised; where the heap may grow, that may be what looks like blocks."""
+    if shape.grows and shape.shortest <= length <= HABITS[shape].usual[1] and rng.random() < 0.15:
+        return bytes(8) + invented_heap(rng, shape, length)[8:]
     kind = rng.randrange(5)
     if kind == 0:
         return bytes(length)
@@ -384,6 +502,7 @@ SWEPT_OFTEN = 20000  # longer heaps are swept less: each sweep costs as much as 
 # How likely allocate, resize and free are; the first mood of some is for a heap with nothing in it.
 MOODS = (FILLING, DRAINING, (40, 20, 40), (20, 60, 20))
 MOODS_WITHOUT_RESIZE = ((90, 0, 10), (20, 0, 80))
+MOODS_FOR_GROWTH = ((50, 45, 5), (20, 60, 20), (20, 40, 40))
 
 
 class Player:
@@ -398,6 +517,8 @@ class Player:
         self.place = {}  # address -> its index in live
         self.dead = [0]
         self.forged = [0]  # addresses behind a forged header or tag
+        self.planned = []  # sizes that are allocated next
+        self.end_share = rng.choice((0, 0.02, 0.1)) if self.shape.grows else 0  # of what is done at the heap's end
         self.check_share = 0.02
         self.forget_share = rng.choice((0, 0.05, 0.3))  # of what is poked
         self.sweep_share = rng.choice((0, 0.02, 0.1)) * min(1, SWEPT_OFTEN / max(1, len(run.heap.data)))
@@ -449,20 +570,49 @@ class Player:
         whole = state.blocks[self.rng.choice(state.free)][1]
         return self.near(whole - self.shape.tags)
 
+    def up_to_the_end(self):
+        """A size for which the heap grows to the buffer's end, or by 8 bytes too much, or to where a page just has room behind
+        it, or lacks 8 bytes; then the size for that page comes next."""
+        rng, shape = self.rng, self.shape
+        left = self.run.buffer_end() - self.run.growth(shape.largest_size).block - shape.tags
+        c = rng.randrange(shape.offered)
+        behind = rng.choice((0, shape.page_size(c)))
+        if left - behind <= shape.largest_item:
+            return rng.choice(sizes_of(c))
+        if behind:
+            self.planned.append(rng.choice(sizes_of(c)))
+        return left - behind + rng.choice((0, 0, 8)) - rng.randrange(8)
+
+    def more_than_is_free(self):
+        """A size for which the heap has to grow, most often by little."""
+        rng, state, shape = self.rng, self.run.heap.state, self.shape
+        empty = [c for c in range(shape.offered) if not state.lists[c]]
+        if empty and rng.random() < 0.4:
+            return rng.choice(sizes_of(rng.choice(empty)))
+        largest = max((state.blocks[block][1] for block in state.free), default=0)
+        return max(shape.largest_item, largest - shape.tags) + rng.randint(1, 200)
+
+    def growing(self):
+        return self.rng.choice((self.up_to_the_end, self.more_than_is_free, self.more_than_is_free))()
+
     def near(self, capacity):
         less = self.rng.choice((-8, 0, 0, 8, 16, 24, 32, 40))
         return max(1, capacity - less - self.rng.randrange(8))
 
     def size(self):
+        if self.planned:
+            return self.planned.pop()
         if self.rng.random() < 0.02:
             return self.rng.choice(bad_sizes(self.shape))
+        if self.rng.random() < self.end_share and self.run.may_grow():
+            return self.growing()
         return self.rng.choice(self.size_makers)()
 
     def new_size(self, address):
         """A size for a resize: near the old one, near what is there with the right neighbour, or any; for an item of a closed
         class often one of its own sizes, or one of an item that is handed out."""
         state, record = self.run.heap.state, self.run.record(address)
-        if record is None or self.rng.random() < 0.4:
+        if record is None or self.rng.random() < max(0.4, self.end_share):
             return self.size()
         if record.is_closed() and self.rng.random() < 0.5:
             return self.rng.choice((self.rng.choice(sizes_of(record.c)), self.small()))
@@ -470,11 +620,15 @@ class Player:
         right = address + capacity + self.shape.word
         if self.rng.random() < 0.5 and state.is_free(right):
             capacity += state.blocks[right][1]
+        if right == state.end and self.end_share and self.rng.random() < 0.5:
+            return capacity + self.rng.randint(1, 100)
         return self.near(capacity)
 
     # Addresses.
 
     def address(self):
+        if self.live and self.rng.random() < self.end_share:
+            return max(self.live)
         if self.live and self.rng.random() < 0.93:
             return self.closed_address() if self.seeks_closed and self.rng.random() < 0.5 else self.rng.choice(self.live)
         return self.wrong_address()
@@ -628,25 +782,32 @@ class Player:
             if self.run.heap.state and rng.random() < 0.3:
                 self.poke()
             if rng.random() < self.check_share:
-                self.run.call(rng.choice(("check", "initialise" if self.run.heap.state else "check")))
+                if self.run.heap.state and rng.random() < 0.5:
+                    self.run.initialise(self.end())
+                else:
+                    self.run.call("check")
             if rng.random() < self.sweep_share:
                 self.sweep()
             rng.choices((self.allocate, self.resize, self.free), self.weights)[0]()
             if not self.live:
                 self.set_mood(self.moods[0])
 
+    def end(self):
+        """An end to ask for, a bad one now and then."""
+        return self.rng.choices((good_end, bad_end), (70, 30))[0](self.rng, self.shape, len(self.run.heap.data))
+
     def begin(self):
         """Some calls on whatever the buffer holds, and then a fresh heap."""
         run = self.run
         run.call("check")
         self.play(self.rng.randrange(4))
-        run.call("initialise")
+        run.initialise(self.end())
         if run.heap.verdict in (GRANTED, BAD_LENGTH):
             return
         self.play(self.rng.randrange(4))
         run.poke(self.rng.randrange(8), b"\x00")
         run.heap.decode()
-        run.call("initialise")
+        run.initialise(good_end(self.rng, self.shape, len(run.heap.data)))
 
 
 def page_size(rng, shape, c):
@@ -727,8 +888,8 @@ def invented_state(rng, shape, end, tastes):
 def invented_heap(rng, shape, length, tastes=TASTES):
     """The bytes of any sound heap, with garbage wherever bytes may be anything."""
     heap = Heap(bytearray(rng.randbytes(length)), shape)
-    heap.initialise()
-    heap.state = invented_state(rng, shape, end_of(length), tastes)
+    heap.initialise(good_end(rng, shape, length, INVENTED_ENDS))
+    heap.state = invented_state(rng, shape, heap.state.end, tastes)
     heap.lay_out_whole()
     return bytes(heap.data)
 
@@ -746,7 +907,7 @@ def heap_with_old_pages(rng, shape, length):
     """The bytes of a heap that calls by the rule before made: full, half-full and empty pages of closed classes, and often
     some of an offered class, blocks and free blocks among them."""
     heap = Heap(bytearray(rng.randbytes(length)), before(shape))
-    heap.initialise()
+    heap.initialise(good_end(rng, shape, length))
     classes = rng.choices(shape.closed, k=rng.choice((1, 2, 3))) + rng.choices(range(shape.offered), k=rng.choice((0, 1, 1)))
     sizes = [rng.choices(sizes_of(c), k=shape.items_in_page(c)) for c in classes for _ in range(rng.randint(1, 3))]
     sizes += [[rng.randint(heap.shape.largest_item + 1, HABITS[shape].block)] for _ in range(rng.choice((0, 0, 3, 6)))]
@@ -836,17 +997,43 @@ def swept_heap(rng, shape):
     return invented_heap(rng, rng.choice((shape, before(shape))), rng.randint(*HABITS[shape].swept), TASTES_FOR_PAGES)
 
 
-def run_and_longer(rng, shape, label):
-    """A run of allocations, frees and sweeps on a fresh heap, and the same on a longer one with other bytes in its records.
-    While the shorter has room, both answer alike: demand 3."""
+def heap_that_may_grow(rng, shape, length):
+    """What a heap with room to grow is, in a word, and its bytes: not yet opened, with any blocks, or old in a longer buffer."""
+    room = rng.randint(8, max(8, length - shape.shortest))
+    origin = rng.choices(("garbage", "sound heap", "old heap"), (6, 3, 1))[0]
+    if origin == "garbage" or length - room < shape.shortest:
+        return "garbage", garbage(rng, shape, length)
+    if origin == "sound heap":
+        return origin, invented_heap(rng, shape, length - room) + rng.randbytes(room)
+    return origin, old_heap(rng, shape, max(length - room, HABITS[shape].first_page[1])) + rng.randbytes(room)
+
+
+def grown_run(rng, shape, label):
+    """A few calls on a heap that soon has to grow, as far as its buffer goes."""
+    origin, start = heap_that_may_grow(rng, shape, rng.randint(*rng.choice(HABITS[shape].grown)))
+    run = Run(shape, label, start, rng.randrange(8), origin)
+    player = Player(rng, run, MOODS_FOR_GROWTH)
+    player.end_share = rng.choice((0.3, 0.8))
+    if origin == "garbage":
+        player.begin()
+    player.play(rng.randint(10, 50))
+    run.call("check")
+    return run
+
+
+def run_and_longer(rng, shape, label, same_start):
+    """A run of allocations, frees and sweeps on a fresh heap, and the same on one in a longer buffer with other bytes in its
+    records: both begin with their whole buffers, or with the same end. While the shorter has room, both answer alike: demand 3."""
     habits = HABITS[shape]
     length = rng.choice([rng.randint(*lengths) for lengths in (habits.first_page, habits.paired, habits.paired)])
     shorter, longer = (Run(shape, label, rng.randbytes(n), 0, "garbage") for n in (length, length + rng.randint(1, habits.longer)))
-    shorter.call("initialise")
+    end = good_end(rng, shape, length - 8) if same_start else None
+    shorter.initialise(end)
+    longer.initialise(end)
     player = Player(rng, shorter, MOODS_WITHOUT_RESIZE)
     player.sweep_share = 0.05
     player.play(CALLS_OF_A_PAIR)
-    for step in shorter.steps:
+    for step in shorter.steps[1:]:
         if step.name == "poke" or step.answer >> 32 == NO_ROOM:
             continue
         refusal, given = longer.call(step.name, *step.arguments)

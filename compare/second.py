@@ -19,7 +19,7 @@ from functools import cached_property
 FREE, VARIABLE, PAGE = 0, 2, 3
 ITEM_FREE, ITEM_IN_USE = 1, 3
 
-GRANTED, BAD_LENGTH, NO_HEAP, NOT_SOUND, BAD_SIZE, BAD_ADDRESS, NO_ROOM, ALREADY = range(8)
+GRANTED, BAD_LENGTH, NO_HEAP, NOT_SOUND, BAD_SIZE, BAD_ADDRESS, NO_ROOM, ALREADY, BAD_END = range(9)
 
 END_OF_WALK = ("end", 0, 0)
 
@@ -31,6 +31,7 @@ def round_up(size):
 
 
 def end_of(length):
+    """The end of a buffer: no heap in it ends behind that."""
     return length // 8 * 8
 
 
@@ -66,6 +67,7 @@ class Shape:
     offered: int  # of so many classes, the lowest, items are handed out; the others are closed
     items_that_fit: Callable[[int], int]  # how many items a page has, by what one of them takes
     longest: int  # bytes of the longest heap; so much is the largest size, too
+    grows: bool  # whether a heap may end before its buffer does, and grow: document 02, (v)
 
     def __reduce__(self):
         return self.name.upper()  # for another process the shape's own name is enough
@@ -100,9 +102,10 @@ class Shape:
     def index_tag(self):
         return self.data_area - self.index_block + PAGE
 
-    def fixed_words(self, end):
+    @cached_property
+    def fixed_words(self):
         """The words that never change, by their positions."""
-        return {len(self.magic): self.data_area, len(self.magic) + self.word: self.index_page, self.stored_end: end,
+        return {len(self.magic): self.data_area, len(self.magic) + self.word: self.index_page,
                 self.index_block: self.index_tag, self.head(self.classes): self.index_tag}
 
     # Blocks and items.
@@ -167,6 +170,11 @@ class Shape:
     def largest_size(self):
         return self.longest
 
+    def may_end(self, length, end):
+        """Whether a heap in a buffer of this length may have this end."""
+        least = self.shortest if self.grows else end_of(length)
+        return least <= end <= end_of(length) and end % 8 == 0
+
     # Words.
 
     @cached_property
@@ -183,13 +191,15 @@ class Shape:
 
 
 WIDE = Shape(name="wide", magic=bytes.fromhex("7879616c6c6f6301"), word=8, classes=32, offered=16,
-             items_that_fit=lambda item: 4096 // item + 1, longest=1048576)
+             items_that_fit=lambda item: 4096 // item + 1, longest=1048576, grows=True)
 HAND = Shape(name="hand", magic=bytes.fromhex("7879616c6c6f6302"), word=4, classes=16, offered=16,
-             items_that_fit=lambda item: 2, longest=65536)
+             items_that_fit=lambda item: 2, longest=65536, grows=False)
 SHAPES = {shape.name: shape for shape in (WIDE, HAND)}
 
 # The console's heap under the rule before (xi), which makes old heaps: no shape of its own, its bytes are read as WIDE.
 BEFORE = replace(WIDE, name="before", offered=WIDE.classes)
+# The same under the rule before (v), which is the rule for a heap's own bytes up to its end.
+FULL = replace(WIDE, name="full", grows=False)
 
 
 def shape_of(data):
@@ -211,7 +221,7 @@ class State:
 
     def __init__(self, shape, end):
         self.shape = shape
-        self.end = end
+        self.end = end  # of the heap, as it is stored; the buffer may be longer
         self.starts = []  # positions of all blocks, rising
         self.blocks = {}  # position -> (kind, size)
         self.page_class = {}  # position of a page -> class
@@ -287,10 +297,10 @@ class State:
         return [p + self.shape.word for p in (*variable, *self.item_class)]
 
 
-def read_fixed_words(data, state):
-    require(data.startswith(state.shape.magic), "first bytes")
-    for position, value in state.shape.fixed_words(state.end).items():
-        require(state.shape.word_at(data, position) == value, f"fixed word at {position}")
+def read_fixed_words(data, shape):
+    require(data.startswith(shape.magic), "first bytes")
+    for position, value in shape.fixed_words.items():
+        require(shape.word_at(data, position) == value, f"fixed word at {position}")
 
 
 def read_block(data, state, position):
@@ -370,10 +380,12 @@ def read_item_lists(data, state, next_item):
 
 
 def read_heap(data, shape):
-    """The abstract heap of these bytes; raises Unsound if there is none."""
+    """The abstract heap of a buffer's bytes; raises Unsound if there is none."""
     require(shape.shortest <= len(data) <= shape.longest, "length")
-    state = State(shape, end_of(len(data)))
-    read_fixed_words(data, state)
+    read_fixed_words(data, shape)
+    end = shape.word_at(data, shape.stored_end)
+    require(shape.may_end(len(data), end), "end")
+    data, state = data[:end], State(shape, end)  # what is behind the end is no part of the heap
     next_item = read_blocks(data, state)
     read_free_list(data, state)
     read_item_lists(data, state, next_item)
@@ -386,7 +398,7 @@ class Heap:
     The abstract heap is kept between calls. Whoever changes bytes other than
     those that may be anything must call decode afterwards. "writes" gathers
     (position, bytes) of all that the calls change; its reader may clear it.
-    "kept" counts the resizes that found no room and left their record as it is.
+    "kept" counts the resizes that found no room and left their record as it is, "grown" how often the heap grew.
     """
 
     def __init__(self, data, shape=WIDE):
@@ -394,6 +406,7 @@ class Heap:
         self.shape = shape
         self.writes = []
         self.kept = 0
+        self.grown = 0
         self.decode()
 
     def decode(self):
@@ -413,16 +426,20 @@ class Heap:
 
     # The calls. Each answers first the refusal number, then what it gives.
 
-    def initialise(self):
+    def initialise(self, end=None):
+        """Only of a shape that grows an end can be asked for; where it is not, the heap takes the whole buffer."""
+        assert end is None or self.shape.grows
         if self.verdict == BAD_LENGTH:
             return BAD_LENGTH, 0
         if self.data.startswith(self.shape.magic):
             return ALREADY, 0
-        end = end_of(len(self.data))
+        end = end_of(len(self.data)) if end is None else end
+        if not self.shape.may_end(len(self.data), end):
+            return BAD_END, 0
         self.state = State(self.shape, end)
         self.verdict = GRANTED
         self._write(0, self.shape.magic)
-        for position, value in self.shape.fixed_words(end).items():
+        for position, value in self.shape.fixed_words.items():
             self._put(position, value)
         for c in range(self.shape.classes):
             self._changed_list(c, 0)
@@ -573,10 +590,27 @@ class Heap:
 
     def _take_block(self, size, kind):
         position = self.state.lowest_fit(size)
+        if position is None and self._grow(size):
+            position = self.state.lowest_fit(size)
         if position is not None:
             whole = self._remove_free(position)
             self._use(position, size, whole, kind)
         return position
+
+    def _grow(self, size):
+        """Whether the heap can end in a free block of this size; if so it then does, and the block is really written."""
+        state = self.state
+        last_is_free = state.is_free(state.starts[-1])
+        position = state.starts[-1] if last_is_free else state.end
+        if not self.shape.may_end(len(self.data), position + size):
+            return False
+        if last_is_free:
+            self._remove_free(position)
+        self._add_free(position, size)
+        state.end = position + size
+        self._lay_out_changes()
+        self.grown += 1
+        return True
 
     def _use(self, position, size, whole, kind):
         """Makes a block of what is free from a position on; what remains stays free where it can be a block."""
@@ -702,6 +736,7 @@ class Heap:
                 self._lay_out_block(position)
         if self.changed_blocks:
             self._put(self.shape.first_free, self.state.free[0] if self.state.free else 0)
+            self._put(self.shape.stored_end, self.state.end)
         for c, count in self.changed_lists.items():
             self._lay_out_list(c, count)
         for item in self.changed_items:
@@ -802,7 +837,7 @@ def example_calls():
             yield name, *numbers, *map(int, line.split()[1:])
 
 
-OPENED = ("initialise", 0, 0)
+OPENED = ("initialise", 0, 0)  # in the whole buffer
 
 # The console's. 300 and 16 on a fresh heap, as in 01, and then 13: what (iv) is told of
 REMARK = [OPENED, ("allocate", 300, 0, 320), ("allocate", 16, 0, 648), ("allocate", 13, 0, 672)]
@@ -819,6 +854,19 @@ OLD_PAGE = (10000, OLD_RECORDS)
 OLD_PAGE_ALONE = (4552, OLD_RECORDS)
 # what stands in the 256 bytes of the second, at their end; the last six are stale
 OLD_STALE = [("put", 832, 0x4444444444444444, 0, 0), ("put", 840, 0x5555555555555555, 0, 0)]
+
+# As small as it may begin; then 300, 16 and a move, for each of which it grows: what (v) is told of
+SMALL = ("initialise", 344, 0, 0)
+GROWN = [SMALL, ("allocate", 300, 0, 320), ("allocate", 16, 0, 648), ("resize", 320, 400, 0, 4760)]
+# what stands where it grows: in the payload of 300 first, second, third and last but one, in its far tag, and behind it
+STALE_GROWN = [("put", p, 0x6666666666666666, 2, 0) for p in (320, 328, 336, 344, 616, 624, 632)]
+# three blocks of 320 bytes, of which the first is freed, and then the last too; and what stands behind them
+THREE_BLOCKS = [SMALL] + [("allocate", 300, 0, a) for a in (320, 640, 960)] + [("free", 320, 0, 0)]
+LAST_FREE = THREE_BLOCKS + [("free", 960, 0, 0)]
+STALE_BEHIND = [("put", p, 0x7777777777777777, 0, 0) for p in range(1272, 1713, 8)]
+# ends that no heap in a buffer of 10,007 bytes may have
+BAD_ENDS = (0, 8, 312, 336, 340, 343, 345, 348, 9999, 10001, 10004, 10007, 10008, 1048576, 2**32 + 344, 2**63 + 344, 2**64 - 8,
+            2**64 - 1)
 
 # The hand unit's. Two items of class 0
 HAND_ITEMS = [OPENED, ("allocate", 1, 0, 104), ("allocate", 8, 0, 116)]
@@ -929,6 +977,62 @@ FIGURES = {BEFORE: {
     "old-page-given-back": (OLD_PAGE, [("free", 592, 0, 0), ("free", 328, 0, 0), ("sweep", 0, 1), ("sweep", 0, 0),
                                        ("allocate", 256, 0, 320)],
                             {24: 584, 296: 0, 312: 274, 4544: 4243, 4552: 5448, 584: 9416, 9992: 9416}, {320: 256}),
+    "begins-small": (10000, GROWN[:1], {24: 312, 32: 344, 312: 32, 320: 0, 328: 0, 336: 32, 344: 0}, {}),
+    "grows-for-a-block": (10000, GROWN[:2], {24: 0, 32: 632, 312: 322, 624: 322}, {320: 304}),
+    "grows-for-a-page": (10000, GROWN[:3] + [("allocate", 16, 0, 672)],
+                         {24: 0, 32: 4752, 56: 640, 632: 4123, 640: 2055, 664: 2055, 688: 10629, 4744: 4123}, {648: 16, 672: 16}),
+    "grows-for-a-move": (10000, GROWN, {24: 312, 32: 5168, 312: 320, 624: 320, 4752: 418, 5160: 418}, {320: 0, 4760: 400}),
+    "grows-for-a-move-to-the-same-size": (10000, GROWN[:2] + [("move", 320, 300, 0, 640)], {24: 312, 32: 952, 312: 320, 632: 322},
+                                          {320: 0, 640: 304}),
+    "grows-to-the-end": (1000, [SMALL, ("allocate", 672, 0, 320), ("allocate", 257, 6, 0), ("allocate", 1, 6, 0)],
+                         {24: 0, 32: 1000, 312: 690, 992: 690}, {320: 672}),
+    "grows-no-further": (1000, [SMALL, ("allocate", 673, 6, 0), ("allocate", 1, 6, 0)], {24: 312, 32: 344, 312: 32, 336: 32}, {}),
+    "grows-to-the-end-behind-a-block": (960, GROWN[:2] + [("allocate", 313, 6, 0), ("allocate", 312, 0, 640)],
+                                        {24: 0, 32: 960, 632: 330, 952: 330}, {640: 312}),
+    "grows-to-the-end-for-a-page": (4439, [SMALL, ("allocate", 16, 0, 328)], {24: 0, 32: 4432, 312: 4123, 4424: 4123}, {328: 16}),
+    "grows-no-further-for-a-page": (4431, [SMALL, ("allocate", 16, 6, 0)], {24: 312, 32: 344, 312: 32}, {}),
+    "stale-words-of-growth": (10000, STALE_GROWN + GROWN[:2],
+                              {312: 322, 320: 0, 328: 0, 336: 32, 344: 0x6666666666666666, 616: 0, 624: 322,
+                               632: 0x6666666666666666}, {320: 304}),
+    "free-block-before-growth": (10000, THREE_BLOCKS + STALE_BEHIND + [("allocate", 400, 0, 1280)],
+                                 {24: 312, 32: 1688, 320: 0, 616: 0, 1272: 418, 1280: 0, 1288: 0x7777777777777777, 1672: 312,
+                                  1680: 418, 1688: 0x7777777777777777}, {1280: 400}),
+    "last-block-enlarged": (10000, LAST_FREE + STALE_BEHIND + [("allocate", 400, 0, 960)],
+                            {24: 312, 32: 1368, 320: 0, 616: 0, 952: 418, 960: 0, 1256: 312, 1264: 320, 1272: 0x7777777777777777,
+                             1352: 312, 1360: 418, 1368: 0x7777777777777777}, {960: 400}),
+    "last-block-enlarged-to-the-end": (1368, LAST_FREE + [("allocate", 401, 6, 0), ("allocate", 16, 6, 0),
+                                                          ("allocate", 400, 0, 960)],
+                                       {24: 312, 32: 1368, 320: 0, 952: 418, 1360: 418}, {960: 400}),
+    "last-block-is-large-enough": (10000, LAST_FREE + [("free", 640, 0, 0), ("allocate", 944, 0, 320)],
+                                   {24: 0, 32: 1272, 312: 962, 1264: 962}, {320: 944}),
+    "free-block-and-item-before-growth": (10000, GROWN + [("allocate", 300, 0, 320), ("allocate", 9, 0, 672), ("free", 672, 0, 0),
+                                                          ("move", 648, 9, 0, 672)], {24: 0, 32: 5168, 312: 322}, {320: 304}),
+    "in-place-never-grows": (10000, GROWN[:2] + [("resize_in_place", 320, 304, 0, 320), ("resize_in_place", 320, 305, 6, 0),
+                                                 ("allocate", 300, 0, 640), ("free", 640, 0, 0),
+                                                 ("resize_in_place", 320, 625, 6, 0), ("resize_in_place", 320, 624, 0, 320)],
+                             {24: 0, 32: 952, 312: 642}, {320: 624}),
+    "moved-where-it-could-not-stay": (10000, THREE_BLOCKS[:3] + [("free", 640, 0, 0), ("resize", 320, 625, 0, 640)],
+                                      {24: 312, 32: 1280, 312: 320, 632: 650, 1272: 650}, {640: 632}),
+    "moved-where-it-could-be-kept": (10000, GROWN[:2] + [("resize", 320, 20, 0, 648)], {24: 312, 32: 4776, 312: 320, 632: 4147},
+                                     {320: 0, 648: 20}),
+    "kept-where-it-cannot-grow": (1000, [SMALL, ("allocate", 600, 0, 320), ("resize_in_place", 320, 20, 6, 0),
+                                         ("move", 320, 20, 6, 0), ("resize", 320, 20, 0, 320), ("resize", 320, 609, 6, 0)],
+                                  {24: 0, 32: 928}, {320: 600}),
+    "end-stays": (10000, GROWN + [("free", a, 0, 0) for a in (4760, 648)] + [("sweep", 0, 1), ("sweep", 0, 0)],
+                  {24: 312, 32: 5168, 312: 4856, 5160: 4856, 5168: 0}, {}),
+    "begins-between": (10007, [("initialise", 9992, 0, 0), ("allocate", 9673, 6, 0), ("allocate", 9665, 0, 320),
+                               ("allocate", 129, 6, 0)],
+                       {24: 0, 32: 10000, 312: 9690, 9992: 9690}, {320: 9672}),
+    "bad-ends": (10007, [("initialise", end, 8, 0) for end in BAD_ENDS] + [
+        ("check", 2, 0), OPENED, *(("initialise", end, 7, 0) for end in (344, 10000, *BAD_ENDS))], {32: 10000}, {}),
+    "bad-end-and-length": (343, [("initialise", end, 1, 0) for end in (0, 336, 343, 344)], {}, {}),
+    "shortest-end": (351, [("initialise", end, 8, 0) for end in (336, 345, 351, 352)] + [SMALL, ("allocate", 129, 6, 0)],
+                     {32: 344}, {}),
+    "another-end": (10000, THREE_BLOCKS[:3] + [
+        ("put", 32, end, 3, 0) for end in (0, 312, 336, 344, 628, 944, 960, 10000, 10008, 2**64 - 8)] + [
+        ("put", 32, 632, 0, 0), ("free", 640, 5, 0), ("allocate", 301, 0, 640)], {24: 0, 32: 952}, {640: 304}),
+    "old-page-and-growth": ((10000, [SMALL] + OLD_RECORDS[1:]), [("allocate", 256, 0, 4560), ("move", 592, 250, 0, 4832)],
+                            {24: 0, 32: 5096, 296: 536, 584: 12925, 4552: 274, 4824: 274}, {592: 0, 4832: 256}),
     "sweep-of-no-heap": (10000, [("sweep", 2, 0)], {}, {}),
     "sweep-of-a-damaged-heap": (10000, TWO_PAGES + [("put", 312, 4227, 3, 0), ("sweep", 3, 0)], {}, {}),
 }, HAND: {
@@ -979,6 +1083,8 @@ FIGURES = {BEFORE: {
     "lower-page-first": (1000, HAND_PAGES + [("sweep", 0, 1)] + [("allocate", 1, 0, a) for a in (104, 136, 168)], {}, {}),
     "sweep-of-no-heap": (1000, [("sweep", 2, 0)], {}, {}),
     "sweep-of-a-damaged-heap": (1000, HAND_PAGES + [("put", 160, 43, 3, 0), ("sweep", 3, 0)], {}, {}),
+    "another-end": (1000, [OPENED, ("allocate", 300, 0, 100), ("allocate", 584, 0, 412), ("put", 20, 408, 3, 0),
+                           ("put", 20, 1008, 3, 0), ("put", 20, 1000, 0, 0), ("allocate", 1, 6, 0)], {16: 0, 20: 1000}, {412: 584}),
     "first-bytes-of-the-console": (1000, [OPENED, ("put", 4, 0x01636f6c, 2, 0), ("free", 100, 2, 0), OPENED], {4: 0x02636f6c}, {}),
 }}
 
@@ -1042,11 +1148,13 @@ class SelfTest:
                 (WIDE, 48, 312, 275, 32, 152, (0, 8, 16, 24), 344), (BEFORE, 48, 312, 275, 32, 280, (0, 8, 16, 24), 344),
                 (HAND, 28, 96, 75, 16, 144, (0, 8), 112)):
             self.same((shape.index_page, shape.data_area), (index_page, data_area))
-            self.same([*shape.fixed_words(1000).values()], [data_area, index_page, 1000, tag, tag])
+            self.same([*shape.fixed_words.values()], [data_area, index_page, tag, tag])
             self.same((shape.smallest_free, shape.smallest_variable, tuple(shape.spare)), (free, variable, spare))
             self.same((shape.shortest, shape.largest_size), (shortest, shape.longest))
-        self.same([*WIDE.fixed_words(0)], [8, 16, 32, 40, 304])
-        self.same([*HAND.fixed_words(0)], [8, 12, 20, 24, 92])
+        self.same([*WIDE.fixed_words, WIDE.first_free, WIDE.stored_end], [8, 16, 40, 304, 24, 32])
+        self.same([*HAND.fixed_words, HAND.first_free, HAND.stored_end], [8, 12, 24, 92, 16, 20])
+        for shape, ends in ((WIDE, [*range(344, 1001, 8)]), (BEFORE, [*range(344, 1001, 8)]), (HAND, [1000])):
+            self.same([end for end in range(1100) if shape.may_end(1007, end)], ends)
         self.same([WIDE.items_in_page(c) for c in (0, 1, 15, 31)], [257, 171, 31, 16])
         self.same([(HAND.items_in_page(c), HAND.item_size(c)) for c in (0, 15)], [(2, 12), (2, 132)])
         self.same([shape.smallest_page for shape in (WIDE, BEFORE, HAND)], [4120, 4120, 32])
@@ -1168,6 +1276,45 @@ class SelfTest:
                          != self.resized_at_once(heap, address, size)]
             self.same(differing, [])
 
+    def grown_by_hand(self, heap, size):
+        """An allocation by the rule before (v) on the heap's own bytes; where these have no room, a free block of the need is put
+        at their end first, word by word. The answer, and the buffer's bytes then."""
+        end, need = heap.word_at(32), WIDE.page_size(class_of(size)) if size <= 128 else WIDE.block_size(size)
+        own = Heap(heap.data[:end], FULL)
+        answer = own.allocate(size)
+        if answer[0] == NO_ROOM:
+            link, previous = 24, 0
+            while heap.word_at(link) and heap.word_at(link) + heap.word_at(heap.word_at(link)) != end:
+                previous = heap.word_at(link)
+                link = previous + 8
+            block = heap.word_at(link) or end
+            if block + need > len(heap.data):
+                return answer, heap.data
+            own.data = heap.data[:block + need]
+            for position, value in ((block, need), (block + 8, 0), (block + need - 16, previous), (block + need - 8, need),
+                                    (link, block), (32, block + need)):
+                FULL.words.pack_into(own.data, position, value)
+            own.decode()
+            answer = own.allocate(size)
+        return answer, own.data + heap.data[len(own.data):]
+
+    def grown_at_once(self, heap, size):
+        heap = Heap(bytearray(heap.data))
+        return heap.allocate(size), heap.data
+
+    def grows_as_by_hand(self):
+        """With and without free blocks, pages and a free last block, in buffers with and without room."""
+        figures = ("begins-small", "grows-for-a-block", "grows-for-a-page", "grows-for-a-move", "free-block-before-growth",
+                   "end-stays", "moved-where-it-could-not-stay", "in-place-never-grows", "another-end", "old-page-and-growth")
+        for figure in figures:
+            heap = Heap(bytearray(start_of(WIDE, figure)))
+            self.same([got for got, wanted in played(figure, heap, heap.do) if got != wanted], [])
+            for room in (0, 8, 136, 300, 4200, len(heap.data) - heap.state.end):
+                tight = Heap(heap.data[:heap.state.end + room])
+                sizes = (*range(1, 130, 32), *range(129, 450, 16), *range(max(1, room - 24), room + 2, 3), 4840, 4841, 5000)
+                differing = [size for size in sizes if self.grown_by_hand(tight, size) != self.grown_at_once(tight, size)]
+                self.same(differing, [])
+
     def five_pages(self, shape, size):
         """A heap with five pages of a class, of which the first records are freed, and the free items as a sweep links them:
         those of pages with most live items first, of the lower of two equal ones before the other's."""
@@ -1238,6 +1385,7 @@ class SelfTest:
         self.resizes()
         self.resizes_without_change()
         self.resizes_in_two()
+        self.grows_as_by_hand()
         self.sweeps()
         self.old_sweeps()
         self.reading()

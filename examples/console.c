@@ -1,5 +1,7 @@
 /* A console's host in small: one heap keeps the electrode insertion forms of a patient's two ears, with a remark and a
-   list of readings that grows as they come in. Every refusal is told, and what was refused is not there. */
+   list of readings that grows as they come in. The heap begins small and grows too, which is told, page by page. Every
+   refusal is told, and what was refused is not there. With the name of a file it writes the heap into it, as it is with
+   all forms, for `show`. */
 #include "jagwibodu.h"
 
 #include <stdio.h>
@@ -21,11 +23,27 @@ struct form {
     uint64_t count;
 };
 
-/* The address of an answer; 0, with a line, where the call was refused. */
+/* How many of the buffer's bytes are the heap's, as it says itself. */
+static uint64_t end_of_heap(void)
+{
+    uint64_t end = 0;
+
+    for (int i = 7; i >= 0; i--)
+        end = end << 8 | heap[JAGWIBODU_END_AT + i];
+    return end;
+}
+
+/* The address of an answer; 0, with a line, where the call was refused. A line too where the heap's end has moved. */
 static uint64_t granted(const char *what, uint64_t answer)
 {
+    static uint64_t told;
+
     if (JAGWIBODU_REFUSAL(answer) != JAGWIBODU_GRANTED)
         printf("%s: refused, %s\n", what, jagwibodu_refusal_name(JAGWIBODU_REFUSAL(answer)));
+    else if (end_of_heap() != told) {
+        told = end_of_heap();
+        printf("%s: the heap has %u of %u bytes\n", what, (unsigned)told, (unsigned)LENGTH);
+    }
     return JAGWIBODU_ADDRESS(answer);
 }
 
@@ -121,18 +139,26 @@ static void free_form(uint64_t at)
     granted("free form", jagwibodu_free(heap, LENGTH, at));
 }
 
-/* Checks what the buffer holds, and opens a heap where it holds none. */
+/* Checks what the buffer holds, and opens a heap where it holds none, the smallest that there is. */
 static int open_heap(void)
 {
     uint64_t answer = jagwibodu_check(heap, LENGTH);
 
     if (JAGWIBODU_REFUSAL(answer) == JAGWIBODU_NOT_OPENED)
-        answer = jagwibodu_initialise(heap, LENGTH);
+        answer = jagwibodu_initialise(heap, LENGTH, JAGWIBODU_SHORTEST);
     granted("open", answer);
     return JAGWIBODU_REFUSAL(answer) == JAGWIBODU_GRANTED;
 }
 
-int main(void)
+static int save(const char *path)
+{
+    FILE *file = fopen(path, "wb");
+    int done = file != NULL && fwrite(heap, 1, LENGTH, file) == LENGTH;
+
+    return file != NULL && fclose(file) == 0 && done;
+}
+
+int main(int count, char **words)
 {
     uint64_t left, right;
     uint16_t ohms[ELECTRODES];
@@ -154,12 +180,18 @@ int main(void)
     print_form(left);
     print_form(right);
     printf("the heap is %s\n", JAGWIBODU_REFUSAL(jagwibodu_check(heap, LENGTH)) == JAGWIBODU_GRANTED ? "sound" : "damaged");
+    if (count > 1 && !save(words[1]))
+        return 1;
     free_form(left);
     free_form(right);
+    printf("with no form left the heap has %u bytes\n", (unsigned)end_of_heap());
     granted("free the left form again", jagwibodu_free(heap, LENGTH, left));
-    granted("open again", jagwibodu_initialise(heap, LENGTH));
-    granted("a record as long as the heap", jagwibodu_allocate(heap, LENGTH, LENGTH));
+    granted("open again", jagwibodu_initialise(heap, LENGTH, JAGWIBODU_SHORTEST));
+    granted("a record as long as the buffer", jagwibodu_allocate(heap, LENGTH, LENGTH));
     heap[20]++;
     granted("a damaged heap", jagwibodu_allocate(heap, LENGTH, 8));
+    memset(heap, 0, 8); /* to start anew */
+    granted("open with more than there is", jagwibodu_initialise(heap, LENGTH, JAGWIBODU_END(LENGTH) + 8));
+    granted("open with all that there is", jagwibodu_initialise(heap, LENGTH, JAGWIBODU_END(LENGTH)));
     return 0;
 }

@@ -73,7 +73,7 @@ static void type(const char *words)
 
 int main(void)
 {
-    jagwibodu_initialise(heap, LENGTH);
+    jagwibodu_initialise(heap, LENGTH, JAGWIBODU_END(LENGTH));
     memset(report, '.', sizeof report - 1);
     open_remark("electrode 7");
     type(" + 8");

@@ -19,7 +19,7 @@ static size_t written[FORMS], taken[FORMS];
 /* Whether all could be written. */
 static int write_on_console(void)
 {
-    jagwibodu_initialise(console, CONSOLE);
+    jagwibodu_initialise(console, CONSOLE, JAGWIBODU_END(CONSOLE));
     for (int i = 0; i < FORMS; i++) {
         written[i] = JAGWIBODU_ADDRESS(jagwibodu_allocate(console, CONSOLE, strlen(texts[i]) + 1));
         if (written[i] == 0)

@@ -87,7 +87,7 @@ int main(int count, char **words)
 {
     int made, saving = count == 3;
 
-    jagwibodu_initialise(heap, LENGTH);
+    jagwibodu_initialise(heap, LENGTH, JAGWIBODU_END(LENGTH));
     make_night_records();
     made = start_up();
     free_tiny_records(made);

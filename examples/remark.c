@@ -52,7 +52,7 @@ int main(void)
 {
     uint64_t remark, letter;
 
-    jagwibodu_initialise(heap, LENGTH);
+    jagwibodu_initialise(heap, LENGTH, JAGWIBODU_END(LENGTH));
     remark = new_record(remark_text, sizeof remark_text);
     letter = new_record(letter_text, sizeof letter_text);
     fill(sizeof letter_text);

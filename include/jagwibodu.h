@@ -14,6 +14,15 @@
    lengths that are kept of them, until they are freed or moved; within its class (the 8 sizes that round up to the same
    multiple of 8) one can be resized where it stands. No record joins them, and a sweep gives their empty pages back.
 
+   A heap may begin small. It takes the buffer's bytes from 0 up to its end, which initialise is given and the heap
+   keeps as a word at JAGWIBODU_END_AT. Where jagwibodu_allocate, jagwibodu_move or jagwibodu_resize finds no room in
+   it, the heap grows: its end moves up, by no more than the record's block or page needs and at most to
+   JAGWIBODU_END(length). No other call moves the end, jagwibodu_resize_in_place does not either, and it never falls.
+   The bytes behind the end are the caller's: no call reads or writes one before the heap has grown over it. The heap
+   does not keep the buffer's length, so lend the same every time: with a greater one the heap could grow on, with one
+   below its end it is refused with 3. A heap of a version before 1.7 ends at JAGWIBODU_END(length), and those versions
+   refuse one that does not with 3.
+
    Opening a buffer: call jagwibodu_check. 0: it holds a sound heap, go on. 2: it holds none, call jagwibodu_initialise.
    3: it holds a damaged one; to start anew clear its first 8 bytes, and then initialise (which else answers 7).
 
@@ -35,17 +44,24 @@ extern "C" {
 #define JAGWIBODU_SHORTEST 344
 #define JAGWIBODU_LONGEST 1048576
 
+/* A heap's end is a multiple of 8, from JAGWIBODU_SHORTEST to this, with which it takes the whole buffer. */
+#define JAGWIBODU_END(length) ((uint64_t)(length) / 8 * 8)
+
+/* Where a heap keeps its end: 8 bytes, the lowest first. */
+#define JAGWIBODU_END_AT 32
+
 /* No call uses more bytes of stack; the tests measure it. */
 #define JAGWIBODU_STACK 22528
 
-/* Opens a heap in a buffer that holds none: 0, or refused with 1 or 7. */
-uint64_t jagwibodu_initialise(uint8_t *buffer, size_t length);
+/* Opens a heap in a buffer that holds none, to begin with up to `end`: JAGWIBODU_SHORTEST for the smallest,
+   JAGWIBODU_END(length) for one that takes all. 0, or refused with 1, 7, or 8 where a heap may not end there. */
+uint64_t jagwibodu_initialise(uint8_t *buffer, size_t length, uint64_t end);
 
 /* Says whether the buffer holds a sound heap: 0, or 1, 2, 3. Changes nothing. */
 uint64_t jagwibodu_check(const uint8_t *buffer, size_t length);
 
-/* Gives a record of `size` bytes, that overlaps no other; its bytes are whatever was there. Refused with 1 to 4, or
-   6. */
+/* Gives a record of `size` bytes, that overlaps no other; its bytes are whatever was there. The heap may grow for it.
+   Refused with 1 to 4, or 6. */
 uint64_t jagwibodu_allocate(uint8_t *buffer, size_t length, uint64_t size);
 
 /* Gives the record at `address` a new size where it stands, and answers `address` again. It never moves a record: who
@@ -55,7 +71,8 @@ uint64_t jagwibodu_resize_in_place(uint8_t *buffer, size_t length, uint64_t addr
 
 /* Gives the record at `address` a new size elsewhere, with the bytes that both lengths share, and gives its old place
    back. It always moves, to the same size too, and never answers `address`. Refused with 1 to 6; then the record stays
-   as it was. 6 means exactly that an allocation of `size` finds no room while the record is still there. */
+   as it was. The heap may grow for the new place. 6 means exactly that an allocation of `size` finds no room while the
+   record is still there. */
 uint64_t jagwibodu_move(uint8_t *buffer, size_t length, uint64_t address, uint64_t size);
 
 /* Gives the record at `address` a new size, where it stands or elsewhere: what jagwibodu_resize_in_place gives; where

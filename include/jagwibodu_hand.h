@@ -4,8 +4,10 @@
 
    All is as jagwibodu.h says of the console's heap, but for these: a buffer has JAGWIBODU_HAND_SHORTEST to
    JAGWIBODU_HAND_LONGEST bytes; a page holds two records, and those of more than 128 bytes never stood in pages;
-   addresses are multiples of 4 from the buffer's start. A heap of the one kind is refused by the calls of the other
-   with JAGWIBODU_NOT_OPENED, since its first 8 bytes differ. The archives for both may be linked into one program. */
+   addresses are multiples of 4 from the buffer's start; and the heap does not grow: it takes the whole buffer from the
+   beginning, so initialise is given no end and never answers 8. A heap of the one kind is refused by the calls of the
+   other with JAGWIBODU_NOT_OPENED, since its first 8 bytes differ. The archives for both may be linked into one
+   program. */
 #ifndef JAGWIBODU_HAND_H
 #define JAGWIBODU_HAND_H
 
@@ -22,7 +24,7 @@ extern "C" {
 /* No call uses more bytes of stack; the tests measure it. */
 #define JAGWIBODU_HAND_STACK 20480
 
-/* Opens a heap in a buffer that holds none: 0, or refused with 1 or 7. */
+/* Opens a heap in a buffer that holds none, in all of it: 0, or refused with 1 or 7. */
 uint64_t jagwibodu_hand_initialise(uint8_t *buffer, size_t length);
 
 /* Says whether the buffer holds a sound heap: 0, or 1, 2, 3. Changes nothing. */
