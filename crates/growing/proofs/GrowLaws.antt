@@ -35,7 +35,7 @@ use Rattle.links.specs.Links.{freeWords, linkedBytes}
 use Rattle.telling.specs.Tells.{Tells}
 use Rattle.telling.proofs.Tellings.{clash, tells-no}
 use Rattle.engine.specs.Allocate.{Asked}
-use Rattle.growing.specs.Growing.{Whole, EdgeAt, FreeBefore, ExtendRoom, extendedBytes, Holding, MayGrow, Grown}
+use Rattle.growing.specs.Growing.{Whole, EdgeAt, FreeBefore, ExtendRoom, extendedBytes, Holding, RoomToGrow, Grown}
 
 -- the need, by the size
 pub by-page : (w n : ℕ) → n ≤ largestItem (shape w) → wanted (shape w) n ≡ pageNeed (shape w) (classOf n)
@@ -44,11 +44,11 @@ by-page w n l = rw (le-leb n (largestItem (shape w)) l) refl
 pub by-block : (w n : ℕ) → largestItem (shape w) < n → wanted (shape w) n ≡ needOf (shape w) n
 by-block w n l = rw (lt-leb n (largestItem (shape w)) l) refl
 
--- whether it may grow: no; or by the bytes behind its end
-pub tells-fixed : (w n e : ℕ) → shape w .grows ≡ false → Tells false (MayGrow w n e)
-tells-fixed w n e g = tells-no (MayGrow w n e) (λ m. clash (shape w .grows) g (m .0))
+-- whether it has room to grow: no; or by the bytes behind its end
+pub tells-fixed : (w n e : ℕ) → shape w .grows ≡ false → Tells false (RoomToGrow w n e)
+tells-fixed w n e g = tells-no (RoomToGrow w n e) (λ m. clash (shape w .grows) g (m .0))
 
-pub tells-more : (w n e : ℕ) → e ≤ n → shape w .grows ≡ true → Tells (leb 8 (n - e)) (MayGrow w n e)
+pub tells-more : (w n e : ℕ) → e ≤ n → shape w .grows ≡ true → Tells (leb 8 (n - e)) (RoomToGrow w n e)
 tells-more w n e l g = record { yes-is = λ q. (g, omega (arith, leb-true 8 (n - e) q, l)); is-yes = λ m. le-leb 8 (n - e) (omega (arith, m .1)) }
 
 module _ {w : ℕ} (b : List ℕ) (x : Holding w b) (n : ℕ) (asked : Asked w n) where
@@ -157,7 +157,7 @@ module _ {w : ℕ} (b : List ℕ) (x : Holding w b) (n : ℕ) (asked : Asked w n
     too-near : length b - end < 8 → Grown w b n 0 b
     too-near l = record { grows = λ L h f r. absurd (omega (arith, further L h f, r, eight L h, h .ended .2, l, k, inside)); stays = λ L h f r. (refl, refl) }
 
-    pub ends-with : (MayGrow w (length b) end → ⊥) → Grown w b n 0 b
+    pub ends-with : (RoomToGrow w (length b) end → ⊥) → Grown w b n 0 b
     ends-with f = go (shape w .grows) refl
       where
         go : (v : Bool) → shape w .grows ≡ v → Grown w b n 0 b

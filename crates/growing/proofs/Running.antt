@@ -31,7 +31,7 @@ use Rattle.engine.specs.Ready.{Ready}
 use Rattle.resizing.specs.declared.resize.Resized.{Resized}
 use Rattle.resizing.specs.declared.resize.Resized.the-variants as to
 use Rattle.resizing.specs.Ways.{outcomeOf, ByWay}
-use Rattle.growing.specs.Growing.{Holding, MayGrow, Grown, takenAs, Takes, Relocates}
+use Rattle.growing.specs.Growing.{Holding, RoomToGrow, Grown, takenAs, Takes, Relocates}
 use Rattle.growing.proofs.GrowLaws.{further, ends-with}
 
 -- what was answered of a heap's own bytes, in the buffer
@@ -277,8 +277,8 @@ module _ {w : ℕ} (b : List ℕ) (x : Holding w b) (n : ℕ) (asked : Asked w n
       absurd (finds-room end c g nz shut (found-none (λ d M m. drawn (shape w) (m .layout) d) (take (end - 0) c) (longer (shape w) n K) (sym (ap (λ (y : Outcome). y .refusal) (ap (λ (y : Taken). takenAs y q) (sym f) ∙ o)))))
 
   -- a heap that ends with its buffer stays as it is
-  pub still-ends : {end : ℕ} {d : List ℕ} → Still w b n end d → (MayGrow w (length d) end → ⊥) → Grown w b n 0 d
-  still-ends {end} s f = subst (λ (y : List ℕ). Grown w b n 0 y) (sym (s .same)) (ends-with b x n asked end (s .ended) (λ m. f (subst (λ (y : List ℕ). MayGrow w (length y) end) (sym (s .same)) m)))
+  pub still-ends : {end : ℕ} {d : List ℕ} → Still w b n end d → (RoomToGrow w (length d) end → ⊥) → Grown w b n 0 d
+  still-ends {end} s f = subst (λ (y : List ℕ). Grown w b n 0 y) (sym (s .same)) (ends-with b x n asked end (s .ended) (λ m. f (subst (λ (y : List ℕ). RoomToGrow w (length y) end) (sym (s .same)) m)))
 
   pub takes-none : Full w b n → (to : ℕ) (d : List ℕ) → Grown w b n to d → to ≡ 0 → Takes w b n NoRoom d
   takes-none shut to d g z = record { is = λ L h. not-grown (λ y M m. drawn (shape w) (m .layout) y) d (subst (λ (y : ℕ). Grown w b n y d) z g) L h (shut L h) }

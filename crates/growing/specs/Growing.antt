@@ -56,9 +56,9 @@ pub record Holding (w : ℕ) (b : List ℕ) : Type 0 where
   pub lent : Lent (shape w) b
   pub sound : SoundIn (shape w) b
 
--- a heap that ends there may grow in a buffer of n bytes: it has 8 more
-abbrev pub MayGrow : ℕ → ℕ → ℕ → Type 0
-MayGrow w n end = (shape w .grows ≡ true) × (end + 8 ≤ n)
+-- a heap that ends there has room to grow in a buffer of n bytes: 8 at least
+abbrev pub RoomToGrow : ℕ → ℕ → ℕ → Type 0
+RoomToGrow w n end = (shape w .grows ≡ true) × (end + 8 ≤ n)
 
 -- the heap's new end, and the buffer with its new free block; or 0, where that end would pass the buffer's
 pub record Grown (w : ℕ) (b : List ℕ) (n to : ℕ) (c : List ℕ) : Type 0 where

@@ -28,7 +28,7 @@ ghost use Rattle.model.specs.Sound.{storedEnd};
 ghost use Rattle.model.specs.Rules.{wanted};
 ghost use Rattle.telling.specs.Tells.{Tells};
 ghost use Rattle.engine.specs.Allocate.{Asked};
-ghost use Rattle.growing.specs.Growing.{Whole, EdgeAt, FreeBefore, ExtendRoom, extendedBytes, Holding, MayGrow, Grown, Takes, Relocates};
+ghost use Rattle.growing.specs.Growing.{Whole, EdgeAt, FreeBefore, ExtendRoom, extendedBytes, Holding, RoomToGrow, Grown, Takes, Relocates};
 
 // The block that n bytes want where no free item will do: a page, or one of their own.
 fn wanted(w: usize, n: usize) -> usize
@@ -78,10 +78,10 @@ fn extend(w: usize, h: &mut [u8], from: Position, before: Position)
     put_linked(w, h, from, end, before, Position(0));
 }
 
-// Whether a heap with that end may grow in a buffer of n bytes.
-fn may_grow(w: usize, n: usize, end: usize) -> bool
+// Whether a heap with that end has room to grow in a buffer of n bytes.
+fn room_to_grow(w: usize, n: usize, end: usize) -> bool
     requires { ⌜ Width w × (end ≤ n) ⌝ }
-    ensures { λ r. ⌜ Tells r (MayGrow w n end) ⌝ }
+    ensures { λ r. ⌜ Tells r (RoomToGrow w n end) ⌝ }
 {
     if !grows(w) {
         return false;
@@ -119,7 +119,7 @@ pub fn allocate(w: usize, h: &mut [u8], n: usize) -> taking::Taken
         match t {
             taking::Taken::At(a) => return taking::Taken::At(a),
             taking::Taken::NoRoom => {
-                if !may_grow(w, h.len(), end) {
+                if !room_to_grow(w, h.len(), end) {
                     return taking::Taken::NoRoom;
                 }
                 end = grow(w, h, Position(end), n).0;
@@ -144,7 +144,7 @@ pub fn relocate(w: usize, h: &mut [u8], a: Address, n: usize) -> sizing::Resized
             sizing::Resized::To(b) => return sizing::Resized::To(b),
             sizing::Resized::NotLive => return sizing::Resized::NotLive,
             sizing::Resized::NoRoom => {
-                if !may_grow(w, h.len(), end) {
+                if !room_to_grow(w, h.len(), end) {
                     return sizing::Resized::NoRoom;
                 }
                 end = grow(w, h, Position(end), n).0;

@@ -16,7 +16,7 @@ use Rattle.growing.proofs.allocate.Lts as lts
 use Rattle.ending.proofs.stored_end.Reads as stored-end-reads
 use Rattle.engine.proofs.allocate.allocate.Reads as allocate-reads
 use Rattle.growing.proofs.grow.Reads as grow-reads
-use Rattle.growing.proofs.may_grow.Reads as may-grow-reads
+use Rattle.growing.proofs.room_to_grow.Reads as room-to-grow-reads
 
 abbrev Inv-loop : tie.InvT-loop
 Inv-loop w h₀ n end₀ h end = Turn w h₀ n (Full w h₀ n) end h
@@ -58,14 +58,14 @@ enum-told c = search needs
 still-of : (c : tie.After-enum-told Inv-loop μ-loop) → Still (c .before .before .before .before .before .before .before .before .before .before .args .w) (now (c .before .before .before .before .before .before .before .before .before .before .args .h)) (c .before .before .before .before .before .before .before .before .before .before .args .n) (c .before .before .before .before .before .before .loop .end) (c .before .before .before .before .allocate .last .1 .0 ++ drop (c .before .before .before .before .before .before .loop .end - 0) (c .before .before .before .before .before .before .loop .h))
 still-of c = takes-still _ (c .before .before .before .before .before .before .before .before .before .before .pre .0) _ (c .before .before .before .before .before .before .before .before .before .before .pre .1) (c .before .before .before .before .before .before .loop .inv .stands) _ _ (c .before .before .before .before .allocate .ensures) (c .enum-told .given .1)
 
-may-grow-requires : tie.Need-may-grow-requires Inv-loop μ-loop
-may-grow-requires c κs = (c .before .before .before .before .before .before .before .before .before .before .pre .0 .width, let s = still-of c in omega (arith, ap length (s .same), s .ended, c .before .before .before .before .before .before .before .before .before .before .pre .0 .sound .here .ended .1))
+room-to-grow-requires : tie.Need-room-to-grow-requires Inv-loop μ-loop
+room-to-grow-requires c κs = (c .before .before .before .before .before .before .before .before .before .before .pre .0 .width, let s = still-of c in omega (arith, ap length (s .same), s .ended, c .before .before .before .before .before .before .before .before .before .before .pre .0 .sound .here .ended .1))
 
 same-length-2 : tie.Need-same-length-2 Inv-loop μ-loop
 same-length-2 c = search needs
 
 returns-2 : tie.Need-returns-2 Inv-loop μ-loop
-returns-2 c = let s = still-of (c .before .before) in takes-none _ (c .before .before .before .before .before .before .before .before .before .before .before .before .pre .0) _ (c .before .before .before .before .before .before .before .before .before .before .before .before .pre .1) (s .full) _ _ (still-ends _ (c .before .before .before .before .before .before .before .before .before .before .before .before .pre .0) _ (c .before .before .before .before .before .before .before .before .before .before .before .before .pre .1) (s) (λ m. clash _ (not-true _ (c .if1 .taken)) (c .before .may-grow .ensures .is-yes m))) refl
+returns-2 c = let s = still-of (c .before .before) in takes-none _ (c .before .before .before .before .before .before .before .before .before .before .before .before .pre .0) _ (c .before .before .before .before .before .before .before .before .before .before .before .before .pre .1) (s .full) _ _ (still-ends _ (c .before .before .before .before .before .before .before .before .before .before .before .before .pre .0) _ (c .before .before .before .before .before .before .before .before .before .before .before .before .pre .1) (s) (λ m. clash _ (not-true _ (c .if1 .taken)) (c .before .room-to-grow .ensures .is-yes m))) refl
 
 grow-requires : tie.Need-grow-requires Inv-loop μ-loop
 grow-requires c κs = let s = (still-of (c .before .before .before)) in ((rw (s .same) (c .before .before .before .before .before .before .before .before .before .before .before .before .before .pre .0), rw (s .same) (s .ended)), c .before .before .before .before .before .before .before .before .before .before .before .before .before .pre .1)
@@ -102,7 +102,7 @@ allocate-spec =
     same-length
     returns
     enum-told
-    may-grow-requires
+    room-to-grow-requires
     same-length-2
     returns-2
     grow-requires

@@ -15,7 +15,7 @@ use Rattle.growing.proofs.relocate.Reads as reads
 use Rattle.growing.proofs.relocate.Lts as lts
 use Rattle.ending.proofs.stored_end.Reads as stored-end-reads
 use Rattle.growing.proofs.grow.Reads as grow-reads
-use Rattle.growing.proofs.may_grow.Reads as may-grow-reads
+use Rattle.growing.proofs.room_to_grow.Reads as room-to-grow-reads
 use Rattle.resizing.proofs.resize.relocate.Reads as relocate-reads
 
 abbrev Inv-loop : tie.InvT-loop
@@ -67,14 +67,14 @@ enum-told-2 c = search needs
 still-of : (c : tie.After-enum-told2 Inv-loop μ-loop) → Still (c .before .before .before .before .before .before .before .before .before .before .args .w) (now (c .before .before .before .before .before .before .before .before .before .before .args .h)) (c .before .before .before .before .before .before .before .before .before .before .args .n) (c .before .before .before .before .before .before .loop .end) (c .before .before .before .before .relocate .last .1 .0 ++ drop (c .before .before .before .before .before .before .loop .end - 0) (c .before .before .before .before .before .before .loop .h)) × Alive (c .before .before .before .before .before .before .before .before .before .before .args .w) (now (c .before .before .before .before .before .before .before .before .before .before .args .h)) (c .before .before .before .before .before .before .before .before .before .before .args .n) (c .before .before .before .before .before .before .before .before .before .before .args .a .0)
 still-of c = moves-still _ (c .before .before .before .before .before .before .before .before .before .before .pre .0) _ (c .before .before .before .before .before .before .before .before .before .before .pre .1) _ (c .before .before .before .before .before .before .loop .inv .stands) _ _ (c .before .before .before .before .relocate .ensures) (c .enum-told2 .given .1)
 
-may-grow-requires : tie.Need-may-grow-requires Inv-loop μ-loop
-may-grow-requires c κs = (c .before .before .before .before .before .before .before .before .before .before .pre .0 .width, let s = still-of c .0 in omega (arith, ap length (s .same), s .ended, c .before .before .before .before .before .before .before .before .before .before .pre .0 .sound .here .ended .1))
+room-to-grow-requires : tie.Need-room-to-grow-requires Inv-loop μ-loop
+room-to-grow-requires c κs = (c .before .before .before .before .before .before .before .before .before .before .pre .0 .width, let s = still-of c .0 in omega (arith, ap length (s .same), s .ended, c .before .before .before .before .before .before .before .before .before .before .pre .0 .sound .here .ended .1))
 
 same-length-3 : tie.Need-same-length-3 Inv-loop μ-loop
 same-length-3 c = search needs
 
 returns-3 : tie.Need-returns-3 Inv-loop μ-loop
-returns-3 c = let s = still-of (c .before .before) in moves-none _ (c .before .before .before .before .before .before .before .before .before .before .before .before .pre .0) _ (c .before .before .before .before .before .before .before .before .before .before .before .before .pre .1) _ (s .0 .full) (s .1) _ _ (still-ends _ (c .before .before .before .before .before .before .before .before .before .before .before .before .pre .0) _ (c .before .before .before .before .before .before .before .before .before .before .before .before .pre .1) (s .0) (λ m. clash _ (not-true _ (c .if1 .taken)) (c .before .may-grow .ensures .is-yes m))) refl
+returns-3 c = let s = still-of (c .before .before) in moves-none _ (c .before .before .before .before .before .before .before .before .before .before .before .before .pre .0) _ (c .before .before .before .before .before .before .before .before .before .before .before .before .pre .1) _ (s .0 .full) (s .1) _ _ (still-ends _ (c .before .before .before .before .before .before .before .before .before .before .before .before .pre .0) _ (c .before .before .before .before .before .before .before .before .before .before .before .before .pre .1) (s .0) (λ m. clash _ (not-true _ (c .if1 .taken)) (c .before .room-to-grow .ensures .is-yes m))) refl
 
 grow-requires : tie.Need-grow-requires Inv-loop μ-loop
 grow-requires c κs = let s = (still-of (c .before .before .before)) .0 in ((rw (s .same) (c .before .before .before .before .before .before .before .before .before .before .before .before .before .pre .0), rw (s .same) (s .ended)), c .before .before .before .before .before .before .before .before .before .before .before .before .before .pre .1)
@@ -114,7 +114,7 @@ relocate-spec =
     same-length-2
     returns-2
     enum-told-2
-    may-grow-requires
+    room-to-grow-requires
     same-length-3
     returns-3
     grow-requires

@@ -2,10 +2,10 @@ use mathlib.Core.Path.{sym, _∙_}
 use borrow.Author.Tests.{not-true, not-false}
 use Rattle.growing.proofs.GrowLaws.{tells-fixed, tells-more}
 use borrow.Author.Needs.{needs}
-use Rattle.growing.proofs.may_grow.Statement.{statement}
-use Rattle.growing.proofs.may_grow.Tie as tie
-use Rattle.growing.proofs.may_grow.Reads as reads
-use Rattle.growing.proofs.may_grow.Lts as lts
+use Rattle.growing.proofs.room_to_grow.Statement.{statement}
+use Rattle.growing.proofs.room_to_grow.Tie as tie
+use Rattle.growing.proofs.room_to_grow.Reads as reads
+use Rattle.growing.proofs.room_to_grow.Lts as lts
 use Rattle.model.proofs.grows.Reads as grows-reads
 
 grows-requires : tie.Need-grows-requires
@@ -20,5 +20,5 @@ sub-result c = search needs
 returns-2 : tie.Need-returns-2
 returns-2 c = tells-more (c .before .before .args .w) _ _ (c .before .before .pre .1) (sym (c .before .grows .ensures) ∙ not-false _ (c .if1 .left))
 
-pub may-grow-spec : {M : Type 1} → statement M
-may-grow-spec = tie.close (tie.spec grows-requires returns sub-result returns-2)
+pub room-to-grow-spec : {M : Type 1} → statement M
+room-to-grow-spec = tie.close (tie.spec grows-requires returns sub-result returns-2)
