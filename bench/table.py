@@ -36,7 +36,7 @@ OLDER, CLOSED = "full of older items", "pages of closed classes"
 ROOM = 4400  # bytes behind the end of a heap that has grown full: a page takes 4,248 of them at most
 # No call may take more instructions than so many times the twin's; no sweep; and none that grows the heap: the twin goes through
 # the free list once for that, ours does so again after it has found no room.
-LIMIT, SWEEP_TWIN_LIMIT, GROWING_TWIN_LIMIT = 1.05, 1.25, 1.3
+LIMIT, SWEEP_TWIN_LIMIT, GROWING_TWIN_LIMIT = 1.055, 1.25, 1.35
 # The hand unit's heaps are short: the map that a check clears, and the table that a sweep clears, are not lost in what they then take.
 CLEARED = {WIDE: (0, 0), HAND: (430, 1900)}  # so many instructions more are let pass for each check, and for a sweep
 SWEEP_LIMIT = 2.5  # a sweep of a heap with half its pages empty takes at most so many times what the check of it takes
