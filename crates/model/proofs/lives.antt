@@ -7,3 +7,4 @@ pub mod Holding
 pub mod LiveFound
 pub mod FreeLives
 pub mod StayLives
+pub mod Addresses

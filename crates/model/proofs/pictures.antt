@@ -4,6 +4,7 @@ pub mod Shown
 pub mod Fronts
 pub mod Change
 pub mod Relist
+pub mod Header
 pub mod Heads
 pub mod Written
 pub mod Places

@@ -1,4 +1,5 @@
 pub mod Fresh
+pub mod Emptied
 pub mod Makings
 pub mod Allocation
 pub mod Sized

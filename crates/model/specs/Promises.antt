@@ -2,14 +2,16 @@
 use Prim.Native.Nat.{ℕ, _+_, _≤_, _<_, min}
 use mathlib.Core.Path.{_≡_}
 use mathlib.Core.Logic.{_⊎_, _↔_}
-use mathlib.Core.List.{List, [], _∷_}
+use mathlib.Core.List.{List, [], _∷_, _++_}
 use mathlib.Core.Option.{none}
 use lib.ListN.{length, getD, take}
+use Rattle.words.specs.Word.{put}
 use Rattle.model.specs.Picture.{Word}
 use Rattle.model.specs.Shape.{Shape, allOffered, start, endOf, largestItem, classOf, needOf, pageNeed, addressOf, itemAt}
+use Rattle.model.specs.Parts.{endAt}
 use Rattle.model.specs.Layout.{free, Layout, endIn, words}
-use Rattle.model.specs.Sound.{Valid, storedEnd, HereIn, SoundIn}
-use Rattle.model.specs.Rules.{Found, block, thing, nothing, longer, find, stays}
+use Rattle.model.specs.Sound.{times, Valid, storedEnd, HereIn, SoundIn}
+use Rattle.model.specs.Rules.{Found, block, thing, nothing, longer, find, stays, fresh}
 use Rattle.model.specs.Live.{_∈_, InTurn, Payload, content, live}
 use Rattle.model.specs.Reading.{Step, Statistics, counted, lookedUp}
 use Rattle.model.specs.Sweeping.{empties}
@@ -38,6 +40,15 @@ MayGrow (resizingBy moving a n) = Unit {0}
 MayGrow (resizingBy keeping a n) = ⊥
 MayGrow sweeping = ⊥
 
+-- any call may be in a run
+abbrev pub Any : Call → Type 0
+Any q = Unit {0}
+
+-- the calls that free addresses, in their order
+unfoldable pub freeingAll : List ℕ → List Call
+freeingAll [] = []
+freeingAll (a ∷ rest) = freeing a ∷ freeingAll rest
+
 -- the numbers that a call can answer at all; those that a call that only reads can, and a look-up
 unfoldable pub numbersOf : Call → List ℕ
 numbersOf (initialising e) = 0 ∷ badLength ∷ alreadyOpened ∷ badEnd ∷ []
@@ -58,6 +69,11 @@ lookUpNumbers = 0 ∷ badLength ∷ notOpened ∷ notSound ∷ notLive ∷ []
 pub record Reply : Type 0 where
   pub refusal : ℕ
   pub address : ℕ
+
+-- the addresses of payloads
+unfoldable pub addresses : List Payload → List ℕ
+addresses [] = []
+addresses (x ∷ xs) = x .address ∷ addresses xs
 
 -- the item at offset o is free, on the list of class c
 abbrev pub Waits : ℕ → ℕ → Layout → Type 0
@@ -316,17 +332,17 @@ module _ (S : Shape) where
   Plain (resizingBy v a n) = ⊥
   Plain sweeping = Unit {0}
 
-  -- a run of allocations, frees and sweeps from bytes b, with writes before each: what was answered
-  pub data Run : List ℕ → List Call → List Reply → Type 0 where
-    over : {b : List ℕ} → Run b [] []
-    call : {b : List ℕ} (b′ : List ℕ) {q : Call} {qs : List Call} {r : Outcome} {rs : List Reply}
-        → Written b b′ → Plain q → Comes b′ q r → Run (r .heap) qs rs → Run b (q ∷ qs) (record { refusal = r .refusal; address = r .address } ∷ rs)
+  -- a run of calls, each of a kind that may be in it, from bytes b to bytes c, with writes before each: what was answered
+  pub data Run (May : Call → Type 0) : List ℕ → List Call → List Reply → List ℕ → Type 0 where
+    over : {b : List ℕ} → Run May b [] [] b
+    call : {b : List ℕ} (b′ : List ℕ) {q : Call} {qs : List Call} {r : Outcome} {rs : List Reply} {c : List ℕ}
+        → Written b b′ → May q → Comes b′ q r → Run May (r .heap) qs rs c → Run May b (q ∷ qs) (record { refusal = r .refusal; address = r .address } ∷ rs) c
 
   -- two fresh heaps, one in a longer buffer: the same run gives the same answers, as long as the one in the shorter never says "no room"
   abbrev pub AgreeFrom : List ℕ → ℕ → List ℕ → ℕ → Type 0
   AgreeFrom b e d f =
       (r t : Outcome) → Initialises S b e r → r .refusal ≡ 0 → Initialises S d f t → t .refusal ≡ 0 → length b ≤ length d
-      → (qs : List Call) (rs ts : List Reply) → Run (r .heap) qs rs → Run (t .heap) qs ts
+      → (qs : List Call) (rs ts : List Reply) (b′ d′ : List ℕ) → Run Plain (r .heap) qs rs b′ → Run Plain (t .heap) qs ts d′
       → ((a : ℕ) → record { refusal = noRoom; address = a } ∈ rs → ⊥) → rs ≡ ts
 
   -- both started at their furthest ends; and both with the same starting end
@@ -335,6 +351,26 @@ module _ (S : Shape) where
 
   abbrev pub SameStartAgrees : Type 0
   SameStartAgrees = (b d : List ℕ) (e : ℕ) → AgreeFrom b e d e
+
+  -- the bytes d are those of the fresh heap h before the data area, but for the end, and one free block fills the rest
+  pub record AsFresh (h d : List ℕ) : Type 0 where
+    pub header : take (start S) d ≡ take (start S) (put (S .word) h (endAt S) (storedEnd S d))
+    pub rest : HereIn S d (fresh S (storedEnd S d))
+
+  -- Everything comes back: of a fresh heap, after any run, then all live payloads freed in any order, then a sweep
+  abbrev pub EverythingBack : Type 0
+  EverythingBack =
+      (b : List ℕ) (e : ℕ) (r : Outcome) → Initialises S b e r → r .refusal ≡ 0
+      → (qs : List Call) (rs : List Reply) (c : List ℕ) → Run Any (r .heap) qs rs c
+      → (L : Layout) → HereIn S c L → (order : List ℕ) → ((a : ℕ) → times a order ≡ times a (addresses (live S L)))
+      → (ts : List Reply) (d : List ℕ) → Run Any c (freeingAll order ++ sweeping ∷ []) ts d
+      → ((t : Reply) → t ∈ ts → t .refusal ≡ 0) × AsFresh (r .heap) d
+
+  -- two heaps of one layout, in buffers of one length: the same run of any calls gives the same answers
+  abbrev pub SameLayoutAgrees : Type 0
+  SameLayoutAgrees =
+      (b d : List ℕ) (L : Layout) → Lent S b → length d ≡ length b → HereIn S b L → HereIn S d L
+      → (qs : List Call) (rs ts : List Reply) (b′ d′ : List ℕ) → Run Any b qs rs b′ → Run Any d qs ts d′ → rs ≡ ts
 
   -- THE PROMISES: every demand of document 01, as 02's requests change and add to them, of heaps of this shape
   pub record Promised : Type 0 where
@@ -374,3 +410,5 @@ module _ (S : Shape) where
     pub smaller-kept : SmallerKept
     pub longer-agrees : LongerAgrees
     pub same-start-agrees : SameStartAgrees
+    pub everything-back : EverythingBack
+    pub same-layout-agrees : SameLayoutAgrees

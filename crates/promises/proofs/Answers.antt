@@ -1,5 +1,5 @@
 -- What a call of a run answers and leaves is what the rules say of its heap's layout, and the layout that is left is that of the buffer.
-use Prim.Native.Nat.{ℕ, _≤_, _%_}
+use Prim.Native.Nat.{ℕ, _≤_, _<_, _%_}
 use mathlib.Core.Path.{_≡_, refl, sym, ap, subst, _∙_}
 use mathlib.Core.List.{List}
 use mathlib.Core.Option.{none}
@@ -8,6 +8,7 @@ use lib.ListN.{length, getD}
 use Rattle.words.specs.Width.{Width}
 use Rattle.words.specs.Word.{Bytes}
 use Rattle.model.specs.Shape.{shape, start, endOf}
+use Rattle.model.specs.Parts.{magicBytes}
 use Rattle.model.specs.Layout.{Layout, ends}
 use Rattle.model.specs.Sound.{MayEnd, storedEnd, heapOf, HereIn}
 use Rattle.model.specs.Rules.{Found, block, thing, nothing, allocate, longer, find}
@@ -15,7 +16,7 @@ use Rattle.model.specs.Refusals.{notLive}
 use Rattle.model.specs.Calls.{Outcome, refused, Lent, GoodSize, inBuffer, drawn, growing, ordinary, sized, found, allocated, freedAt, sweptAll}
 use Rattle.model.specs.Promises.{Call, initialising, checking, allocating, freeing, resizing, resizingBy, sweeping, Comes, Plain}
 use Rattle.model.proofs.Good.{shape-good}
-use Rattle.model.proofs.pictures.Fronts.{fronted-own, front-length, front-behind, front-bytes, front-end, front-here, own-ends}
+use Rattle.model.proofs.pictures.Fronts.{fronted-own, front-length, front-below, front-behind, front-bytes, front-end, front-here, own-ends}
 use Rattle.model.proofs.rules.Allocation.{allocate-grants}
 use Rattle.model.proofs.rules.Growth.{longer-finds}
 use Rattle.model.proofs.rules.Ready.{Runs, noneFits, ranOn, runs, RunsOn, runs-own, ready-runs}
@@ -24,7 +25,7 @@ use Rattle.model.proofs.rules.OnLayouts.{Done, sizedOn, doing}
 use Rattle.promises.proofs.Heaps.{Does, drew, freed-valid, sweeping-done}
 
 module _ {w : ℕ} (wd : Width w) where
-  -- an outcome is what was done on the layout; where that stays, so does every byte; the end does not fall, and no byte behind it is touched
+  -- an outcome is what was done on the layout; where that stays, so does every byte; the magic number stays; the end does not fall, and no byte behind it is touched
   pub record DoesIn (b : List ℕ) (L : Layout) (r : Outcome) (d : Done) : Type 0 where
     pub refusal : r .refusal ≡ d .refusal
     pub address : r .address ≡ d .address
@@ -32,6 +33,7 @@ module _ {w : ℕ} (wd : Width w) where
     pub here : HereIn (shape w) (r .heap) (d .layout)
     pub bytes : Bytes b → Bytes (r .heap)
     pub still : d .layout ≡ L → Bytes b → r .heap ≡ b
+    pub magic : (i : ℕ) → i < magicBytes → getD (r .heap) i 0 ≡ getD b i 0
     pub rises : storedEnd (shape w) b ≤ storedEnd (shape w) (r .heap)
     pub behind : (i : ℕ) → storedEnd (shape w) (r .heap) ≤ i → getD (r .heap) i 0 ≡ getD b i 0
 
@@ -42,7 +44,7 @@ module _ {w : ℕ} (wd : Width w) where
   module _ (b : List ℕ) (L : Layout) (l : Lent (shape w) b) (h : HereIn (shape w) b L) where
     -- what is done where nothing is written
     pub left : (k a : ℕ) → DoesIn b L (record { refusal = k; address = a; heap = b }) (record { refusal = k; address = a; layout = L })
-    left k a = record { refusal = refl; address = refl; same = refl; here = h; bytes = λ x. x; still = λ e x. refl; rises = omega arith; behind = λ i m. refl }
+    left k a = record { refusal = refl; address = refl; same = refl; here = h; bytes = λ x. x; still = λ e x. refl; magic = λ i m. refl; rises = omega arith; behind = λ i m. refl }
 
     -- what is done on the bytes and the layout where a rule runs, in the buffer
     pub lifted : {c : List ℕ} {M : Layout} → RunsOn wd b L c M → (r : Outcome) (d : Done) → Does wd c M r d → DoesIn b L (inBuffer b r) d
@@ -56,6 +58,7 @@ module _ {w : ℕ} (wd : Width w) where
           here = front-here (shape w) (r .heap) b (d .layout) (x .here) eight (subst (λ (n : ℕ). MayEnd (shape w) (length b) n) (sym (x .same)) (on .may));
           bytes = λ k. front-bytes (r .heap) b (x .bytes (on .bytes k)) k;
           still = λ e k. as-it-was e k;
+          magic = λ i m. front-below (r .heap) b i (omega (arith, m, x .same, on .lent .0)) ∙ x .magic i m ∙ on .magic i m;
           rises = omega (arith, ended, x .same, on .rises);
           behind = λ i m. front-behind (r .heap) b i (omega (arith, ended, m));
         }

@@ -21,8 +21,10 @@ pub mod StaysSound
 pub mod Ends
 pub mod SweepKept
 pub mod NoRoomExact
-pub mod Longer
 pub mod Doing
+pub mod Runs
+pub mod Longer
+pub mod Back
 pub mod LookedUp
 pub mod ClosedWait
 pub mod Promised

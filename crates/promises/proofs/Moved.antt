@@ -22,7 +22,7 @@ use Rattle.model.proofs.Good.{shape-good}
 use Rattle.model.proofs.lives.Payloads.{in-area, content-kept}
 use Rattle.model.proofs.rules.Allocation.{Granted, allocate-grants}
 use Rattle.model.proofs.pictures.Written.{kept-here}
-use Rattle.promises.proofs.Heaps.{Does, draws, drawn-length, drawn-bytes}
+use Rattle.promises.proofs.Heaps.{Does, draws, drawn-length, drawn-bytes, drawn-magic}
 use Rattle.model.proofs.lives.LiveFound.{isThere, live-is-there}
 use Rattle.model.proofs.lives.Moving.{live-apart}
 use Rattle.model.proofs.lives.FreeLives.{Removed, freed-removes}
@@ -135,6 +135,10 @@ module _ {w : ℕ} (wd : Width w) where
           here = moved-here;
           bytes = moved-bytes;
           still = λ e x. absurd (moved-elsewhere e);
+          magic = λ i k.
+              drawn-magic wd copiedBytes K copied-lent copied-here (without (shape w) a K) (gone .valid) i k
+              ∙ copied-apart i (λ lo hi. omega (arith, lo, k, in-area (shape w) (endOf (length b)) K (new .valid) (new .payload) (new .adds .there) .0))
+              ∙ drawn-magic wd b L l h K (new .valid) i k;
         }
 
     beginning : (x : Payload) → x ∈ live (shape w) L → x .address ≡ a

@@ -13,7 +13,7 @@ use Rattle.model.specs.Shape.{shape, shortest, leastEnd, endOf}
 use Rattle.model.specs.Layout.{words}
 use Rattle.model.specs.Sound.{Here, MayEnd, storedEnd, HereIn}
 use Rattle.model.specs.Rules.{fresh}
-use Rattle.model.specs.Calls.{Outcome, Lent, Opened, granted, inBuffer, drawn, Initialises}
+use Rattle.model.specs.Calls.{Outcome, Lent, Opened, granted, fronted, inBuffer, drawn, Initialises}
 use Rattle.model.specs.Promises.{OpensSound}
 use Rattle.model.proofs.Sizes.{magic-fits}
 use Rattle.model.proofs.pictures.Pictures.{length-draw, bytes-draw}
@@ -31,6 +31,7 @@ module _ {w : ℕ} (wd : Width w) where
     pub end : storedEnd (shape w) (r .heap) ≡ e
     pub behind : (i : ℕ) → e ≤ i → getD (r .heap) i 0 ≡ getD b i 0
     pub bytes : Bytes b → Bytes (r .heap)
+    pub drawn : (begun : List ℕ) × (length begun ≡ e) × (r .heap ≡ fronted (drawn (shape w) (fresh (shape w) e) begun) b)
 
   module _ (b : List ℕ) (e : ℕ) (r : Outcome) (c : Initialises (shape w) b e r) where
     pub fresh-of : Lent (shape w) b → (Opened (shape w) b → ⊥) → MayEnd (shape w) (length b) e → Fresh b e r
@@ -43,6 +44,7 @@ module _ {w : ℕ} (wd : Width w) where
           end = ap (λ (o : Outcome). storedEnd (shape w) (o .heap)) is ∙ front-end (shape w) own b (fresh (shape w) e) there eight ∙ long;
           behind = λ i k. ap (λ (o : Outcome). getD (o .heap) i 0) is ∙ front-behind own b i (omega (arith, long, k));
           bytes = λ x. subst (λ (o : Outcome). Bytes (o .heap)) (sym is) (front-bytes own b (bytes-draw w (words (shape w) (endOf (length begun)) (fresh (shape w) e)) begun (bytes-put 8 (take e b) 0 (shape w .magic) (take-bytes e b (omega (arith, m .1)) x))) x);
+          drawn = (begun, begun-long, ap (λ (o : Outcome). o .heap) is);
         }
       where
         begun : List ℕ

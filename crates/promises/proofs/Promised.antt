@@ -25,7 +25,8 @@ use Rattle.promises.proofs.ClosedWait.{closed-wait}
 use Rattle.promises.proofs.Places.{in-place-stays, move-moves}
 use Rattle.promises.proofs.SweepKept.{sweep-keeps, swept-stays, sweep-counts}
 use Rattle.promises.proofs.NoRoomExact.{no-room-exactly, smaller-kept}
-use Rattle.promises.proofs.Longer.{longer-agrees, same-start-agrees}
+use Rattle.promises.proofs.Longer.{longer-agrees, same-start-agrees, same-layout-agrees}
+use Rattle.promises.proofs.Back.{everything-back}
 
 pub promised : {w : ℕ} → Width w → Promised (shape w)
 promised {w} wd =
@@ -66,6 +67,8 @@ promised {w} wd =
       smaller-kept = smaller-kept wd;
       longer-agrees = longer-agrees wd;
       same-start-agrees = same-start-agrees wd;
+      everything-back = everything-back wd;
+      same-layout-agrees = same-layout-agrees wd;
     }
 
 pub wide-promised : Promised wide

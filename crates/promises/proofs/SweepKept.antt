@@ -25,20 +25,20 @@ use Rattle.promises.proofs.Lifting.{sweep-in}
 module _ {w : ℕ} (wd : Width w) where
   -- what a sweep leaves of the heap's own bytes
   module _ (b : List ℕ) (L : Layout) (l : Lent (shape w) b) (h : HereIn (shape w) b L) where
-    abbrev own : List ℕ
+    abbrev pub own : List ℕ
     own = heapOf (shape w) b
 
-    on : RunsOn wd b L own L
+    pub on : RunsOn wd b L own L
     on = runs-own wd b L l h
 
-    done : Does wd own L (sweptAll (shape w) own L) (record { refusal = 0; address = empties (L .blocks); layout = sweptLayout (shape w) L })
+    pub done : Does wd own L (sweptAll (shape w) own L) (record { refusal = 0; address = empties (L .blocks); layout = sweptLayout (shape w) L })
     done = sweeping-done wd own L (on .lent) (on .here)
 
     own-kept : SweepKept (shape w) own L (sweptAll (shape w) own L) (sweptLayout (shape w) L)
     own-kept = (swept-live wd own L (on .here) (on .lent .1), (λ x i. swept-kept wd own L (on .here) (on .lent .1) x i))
 
     -- and so of the buffer
-    leaves : HereIn (shape w) (ordinary (shape w) b (sweptAll (shape w)) L .heap) (sweptLayout (shape w) L)
+    pub leaves : HereIn (shape w) (ordinary (shape w) b (sweptAll (shape w)) L .heap) (sweptLayout (shape w) L)
     leaves = lifted wd b L l h on _ _ done .here
 
     keeps : SweepKept (shape w) b L (ordinary (shape w) b (sweptAll (shape w)) L) (sweptLayout (shape w) L)

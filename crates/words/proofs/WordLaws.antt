@@ -41,13 +41,13 @@ pub word-other : (w : ℕ) (b : List ℕ) (q v p : ℕ) → (p < q + w → q < p
 word-other w b q v p h = word-agree w (put w b q v) b p (λ i l m. put-out w b q v i (λ l′ m′. h (omega arith) (omega arith)))
 
 -- what was put stands there, whatever stood there before
-pub put-same : (w : ℕ) (b c : List ℕ) (p v i : ℕ) → length c ≡ length b → i < length b → p ≤ i → i < p + w → getD (put w c p v) i 0 ≡ getD (put w b p v) i 0
+pub put-same : (w : ℕ) (b c : List ℕ) (p v i : ℕ) → i < length b → i < length c → p ≤ i → i < p + w → getD (put w c p v) i 0 ≡ getD (put w b p v) i 0
 unfolding put
-put-same zero b c p v i e h l m = absurd (omega arith)
-put-same (suc w) b c p v i e h l m = go (ℕ-discrete i p) (put-same w (set b p (v % 256)) (set c p (v % 256)) (p + 1) (v / 256) i (simp length-set e) (simp length-set h))
+put-same zero b c p v i h k l m = absurd (omega arith)
+put-same (suc w) b c p v i h k l m = go (ℕ-discrete i p) (put-same w (set b p (v % 256)) (set c p (v % 256)) (p + 1) (v / 256) i (simp length-set h) (simp length-set k))
   where
     first : (d : List ℕ) → i ≡ p → p < length d → getD (put w (set d p (v % 256)) (p + 1) (v / 256)) i 0 ≡ v % 256
-    first d f k = put-out w (set d p (v % 256)) (p + 1) (v / 256) i (λ x y. omega arith) ∙ rw f (getD-set-same d p (v % 256) 0 k)
+    first d f j = put-out w (set d p (v % 256)) (p + 1) (v / 256) i (λ x y. omega arith) ∙ rw f (getD-set-same d p (v % 256) 0 j)
 
     go : Dec (i ≡ p) → (p + 1 ≤ i → i < p + 1 + w → getD (put w (set c p (v % 256)) (p + 1) (v / 256)) i 0 ≡ getD (put w (set b p (v % 256)) (p + 1) (v / 256)) i 0)
         → getD (put w (set c p (v % 256)) (p + 1) (v / 256)) i 0 ≡ getD (put w (set b p (v % 256)) (p + 1) (v / 256)) i 0
@@ -59,7 +59,7 @@ pub put-over : (w : ℕ) (b : List ℕ) (p x y : ℕ) → put w (put w b p x) p 
 put-over w b p x y = ext-getD 0 (put w (put w b p x) p y) (put w b p y) (length-put w (put w b p x) p y ∙ length-put w b p x ∙ sym (length-put w b p y)) (λ i l. at i (rw (length-put, length-put) at l) (decLe p i) (decLt i (p + w)))
   where
     at : (i : ℕ) → i < length b → Dec (p ≤ i) → Dec (i < p + w) → getD (put w (put w b p x) p y) i 0 ≡ getD (put w b p y) i 0
-    at i l (yes j) (yes k) = put-same w b (put w b p x) p y i (length-put w b p x) l j k
+    at i l (yes j) (yes k) = put-same w b (put w b p x) p y i l (rw (length-put w b p x) l) j k
     at i l (yes j) (no k) = put-out w (put w b p x) p y i (λ _ m. k m) ∙ put-out w b p x i (λ _ m. k m) ∙ sym (put-out w b p y i (λ _ m. k m))
     at i l (no j) d = put-out w (put w b p x) p y i (λ m _. j m) ∙ put-out w b p x i (λ m _. j m) ∙ sym (put-out w b p y i (λ m _. j m))
 
@@ -71,13 +71,13 @@ put-swap w b p x q y far =
     at i l (yes j) d = go (decLt i (q + w))
       where
         go : Dec (i < q + w) → getD (put w (put w b p x) q y) i 0 ≡ getD (put w (put w b q y) p x) i 0
-        go (yes k) = put-same w b (put w b p x) q y i (length-put w b p x) l j k ∙ sym (put-out w (put w b q y) p x i (λ _ m. omega arith))
+        go (yes k) = put-same w b (put w b p x) q y i l (rw (length-put w b p x) l) j k ∙ sym (put-out w (put w b q y) p x i (λ _ m. omega arith))
         go (no k) = put-out w (put w b p x) q y i (λ _ m. k m) ∙ put-out w b p x i (λ _ m. omega arith) ∙ sym (put-out w b q y i (λ _ m. k m)) ∙ sym (put-out w (put w b q y) p x i (λ _ m. omega arith))
     at i l (no j) (no k) = put-out w (put w b p x) q y i (λ m _. j m) ∙ put-out w b p x i (λ _ m. k m) ∙ sym (put-out w b q y i (λ m _. j m)) ∙ sym (put-out w (put w b q y) p x i (λ _ m. k m))
     at i l (no j) (yes k) = go (decLe p i)
       where
         go : Dec (p ≤ i) → getD (put w (put w b p x) q y) i 0 ≡ getD (put w (put w b q y) p x) i 0
-        go (yes n) = put-out w (put w b p x) q y i (λ m _. j m) ∙ sym (put-same w b (put w b q y) p x i (length-put w b q y) l n k)
+        go (yes n) = put-out w (put w b p x) q y i (λ m _. j m) ∙ sym (put-same w b (put w b q y) p x i l (rw (length-put w b q y) l) n k)
         go (no n) = put-out w (put w b p x) q y i (λ m _. j m) ∙ put-out w b p x i (λ m _. n m) ∙ sym (put-out w b q y i (λ m _. j m)) ∙ sym (put-out w (put w b q y) p x i (λ m _. n m))
 
 pub bytes-put : (w : ℕ) (b : List ℕ) (p v : ℕ) → Bytes b → Bytes (put w b p v)

@@ -154,10 +154,11 @@ module _ (S : Shape) where
     rises : Rise (S .word) 8 (words S (endOf (length b)) L) (endOf (length b))
     rises = rise-words good (endOf (length b)) L v (omega arith)
 
+    pub magic-stays : (i : ℕ) → i < 8 → getD (draw (S .word) (words S (endOf (length b)) L) b) i 0 ≡ getD b i 0
+    magic-stays i l = let ws = words S (endOf (length b)) L in draw-out (S .word) ws b i (rise-outside (S .word) 8 ws (endOf (length b)) i rises l)
+
     pub drawn-magic : wordAt 8 (draw (S .word) (words S (endOf (length b)) L) b) 0 ≡ wordAt 8 b 0
-    drawn-magic =
-        let ws = words S (endOf (length b)) L in
-        word-agree 8 (draw (S .word) ws b) b 0 (λ i k l. draw-out (S .word) ws b i (rise-outside (S .word) 8 ws (endOf (length b)) i rises l))
+    drawn-magic = word-agree 8 (draw (S .word) (words S (endOf (length b)) L) b) b 0 (λ i k l. magic-stays i l)
 
     pub drawn-shown : Shows (S .word) (draw (S .word) (words S (endOf (length b)) L) b) (words S (endOf (length b)) L)
     drawn-shown = draw-shows (S .word) 8 (words S (endOf (length b)) L) (endOf (length b)) b rises (omega arith) (fit-words good (endOf (length b)) L v (omega arith))

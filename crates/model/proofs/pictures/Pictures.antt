@@ -8,7 +8,7 @@ use native.Mathlib.Decide.{decLt, decLe}
 use lib.ListN.{length, getD}
 use lib.Seq.{ext-getD}
 use Rattle.words.specs.Word.{wordAt, put, Bytes}
-use Rattle.words.proofs.WordLaws.{length-put, put-out, put-same, put-in, word-same, word-other, word-agree, bytes-put}
+use Rattle.words.proofs.WordLaws.{length-put, put-out, put-same, put-swap, put-in, word-same, word-other, word-agree, bytes-put}
 use Rattle.model.specs.Picture.{Word, Shows, draw}
 use Rattle.model.specs.Live.{_∈_}
 
@@ -122,22 +122,22 @@ module _ (w : ℕ) where
   draw-out (x ∷ xs) b i h = draw-out xs (put w b (x .at) (x .is)) i (h .1) ∙ put-out w b (x .at) (x .is) i (h .0)
 
   -- bytes that agree outside it agree once it is drawn; so drawn again it changes nothing
-  draw-agree : (ws : List Word) (b c : List ℕ) (i : ℕ) → length c ≡ length b → i < length b → (Outside w i ws → getD c i 0 ≡ getD b i 0) → getD (draw w ws c) i 0 ≡ getD (draw w ws b) i 0
+  pub draw-agree : (ws : List Word) (b c : List ℕ) (i : ℕ) → i < length b → i < length c → (Outside w i ws → getD c i 0 ≡ getD b i 0) → getD (draw w ws c) i 0 ≡ getD (draw w ws b) i 0
   unfolding draw Outside
-  draw-agree [] b c i e l h = h tt
-  draw-agree (x ∷ xs) b c i e l h =
-      draw-agree xs (put w b (x .at) (x .is)) (put w c (x .at) (x .is)) i (length-put w c (x .at) (x .is) ∙ e ∙ sym (length-put w b (x .at) (x .is))) (omega (arith, l, length-put w b (x .at) (x .is)))
+  draw-agree [] b c i l k h = h tt
+  draw-agree (x ∷ xs) b c i l k h =
+      draw-agree xs (put w b (x .at) (x .is)) (put w c (x .at) (x .is)) i (rw (length-put w b (x .at) (x .is)) l) (rw (length-put w c (x .at) (x .is)) k)
       (λ o. at o (decLe (x .at) i) (decLt i (x .at + w)))
     where
       at : Outside w i xs → Dec (x .at ≤ i) → Dec (i < x .at + w) → getD (put w c (x .at) (x .is)) i 0 ≡ getD (put w b (x .at) (x .is)) i 0
-      at o (yes m) (yes n) = put-same w b c (x .at) (x .is) i e l m n
+      at o (yes m) (yes n) = put-same w b c (x .at) (x .is) i l k m n
       at o (yes m) (no n) = put-out w c (x .at) (x .is) i (λ _ q. n q) ∙ h ((λ _ q. n q), o) ∙ sym (put-out w b (x .at) (x .is) i (λ _ q. n q))
       at o (no m) d = put-out w c (x .at) (x .is) i (λ q _. m q) ∙ h ((λ q _. m q), o) ∙ sym (put-out w b (x .at) (x .is) i (λ q _. m q))
 
   pub draw-twice : (ws : List Word) (b : List ℕ) → draw w ws (draw w ws b) ≡ draw w ws b
   draw-twice ws b =
       ext-getD 0 (draw w ws (draw w ws b)) (draw w ws b) (length-draw ws (draw w ws b))
-      (λ i l. draw-agree ws b (draw w ws b) i (length-draw ws b) (omega (arith, l, length-draw ws b, length-draw ws (draw w ws b))) (draw-out ws b i))
+      (λ i l. let k = rw (length-draw ws (draw w ws b)) at l in draw-agree ws b (draw w ws b) i (rw (length-draw ws b) at k) k (draw-out ws b i))
 
   -- a picture whose words are apart, within the bytes and fit is shown once it is drawn
   pub draw-shows : (lo : ℕ) (ws : List Word) (hi : ℕ) (b : List ℕ) → Rise w lo ws hi → hi ≤ length b → Fit w ws → Shows w (draw w ws b) ws
@@ -155,6 +155,13 @@ module _ (w : ℕ) where
       draw-below lo [] hi b p r h = refl
       draw-below lo (x ∷ xs) hi b p r h =
           draw-below (x .at + w) xs hi (put w b (x .at) (x .is)) p (r .1) (omega (arith, r .0)) ∙ word-other w b (x .at) (x .is) p (λ k l. omega (arith, r .0))
+
+  -- a word below a picture may be put before it is drawn or behind
+  pub put-draw : (lo : ℕ) (ws : List Word) (hi : ℕ) (b : List ℕ) (p v : ℕ) → Rise w lo ws hi → p + w ≤ lo → put w (draw w ws b) p v ≡ draw w ws (put w b p v)
+  unfolding draw Rise
+  put-draw lo [] hi b p v r h = refl
+  put-draw lo (x ∷ xs) hi b p v r h =
+      put-draw (x .at + w) xs hi (put w b (x .at) (x .is)) p v (r .1) (omega (arith, r .0)) ∙ ap (λ (d : List ℕ). draw w xs d) (sym (put-swap w b p v (x .at) (x .is) (omega (arith, r .0))))
 
   -- bytes that show a picture, and are as before outside it, are those with the picture drawn
   pub drawn : (ws : List Word) (b c : List ℕ) → Bytes c → length c ≡ length b → Shows w c ws

@@ -4,11 +4,12 @@ use mathlib.Core.Path.{_≡_, refl, sym, subst, _∙_}
 use mathlib.Core.List.{List}
 use mathlib.Core.Option.{Option, none, some}
 use native.Mathlib.Omega.{arith}
-use lib.ListN.{length, take}
-use lib.Seq.{length-take-le}
+use lib.ListN.{length, getD, take}
+use lib.Seq.{getD-take, length-take-le}
 use Rattle.words.specs.Width.{Width}
 use Rattle.words.specs.Word.{Bytes}
 use Rattle.model.specs.Shape.{Shape, shape, shortest, endOf}
+use Rattle.model.specs.Parts.{magicBytes}
 use Rattle.model.specs.Layout.{Layout, endIn, words}
 use Rattle.model.specs.Sound.{Valid, Here, MayEnd, storedEnd, heapOf, HereIn}
 use Rattle.model.specs.Rules.{Made, allocate, longer, growth}
@@ -19,8 +20,8 @@ use Rattle.model.proofs.Good.{shape-good}
 use Rattle.words.proofs.WidthLaws.{widths}
 use Rattle.model.proofs.Sizes.{end-room}
 use Rattle.model.proofs.pictures.Pictures.{length-draw, bytes-draw}
-use Rattle.model.proofs.pictures.Drawn.{drawn-here}
-use Rattle.model.proofs.pictures.Fronts.{refused-own, take-word, take-content, take-bytes, own-length, own-eight, own-ends, own-opened}
+use Rattle.model.proofs.pictures.Drawn.{tiled, magic-stays, drawn-here}
+use Rattle.model.proofs.pictures.Fronts.{refused-own, take-word, take-content, take-bytes, own-length, own-eight, own-ends, own-start, own-opened}
 use Rattle.model.proofs.lives.Payloads.{in-area, content-kept}
 use Rattle.model.proofs.rules.Growth.{Grows, found, full, grown, grows, longer-valid, longer-live, longer-eight, longer-further}
 use Rattle.model.proofs.rules.OnLayouts.{Done, refuse, grant, grownOr, readied, madeOn}
@@ -76,6 +77,7 @@ module _ {w : ℕ} (wd : Width w) where
     pub lists : M .lists ≡ L .lists
     pub content : (x : Payload) → x ∈ live (shape w) L → content h x ≡ content b x
     pub bytes : Bytes b → Bytes h
+    pub magic : (i : ℕ) → i < magicBytes → getD h i 0 ≡ getD b i 0
 
   module _ (b : List ℕ) (L : Layout) (l : Lent (shape w) b) (x : HereIn (shape w) b L) where
     abbrev e : ℕ
@@ -99,6 +101,7 @@ module _ {w : ℕ} (wd : Width w) where
           lists = refl;
           content = λ y i. take-content e b y inside (omega (arith, in-area (shape w) (endOf (length (heapOf (shape w) b))) L (x .here .valid) y i .1, own-ends (shape w) b L x));
           bytes = take-bytes e b inside;
+          magic = λ i m. getD-take e b i 0 (omega (arith, m, own-start (shape w) b L x));
         }
 
     -- on those of the heap that has grown
@@ -146,6 +149,9 @@ module _ {w : ℕ} (wd : Width w) where
                 content-kept (shape w) (endOf (length (take to b))) G (take to b) valid-there y (subst (λ (ys : List Payload). y ∈ ys) (sym (longer-live wd n one e L was)) i)
                 ∙ take-content to b y (omega (arith, room)) (omega (arith, in-area (shape w) e L was y i .1, further));
             bytes = λ k. bytes-draw w (words (shape w) (endOf (length (take to b))) G) (take to b) (take-bytes to b (omega (arith, room)) k);
+            magic = λ i m.
+                magic-stays (shape w) (shape-good wd) (take to b) G (tiled (shape w) valid-there) (omega (arith, front-is, room, l .1)) i m
+                ∙ getD-take to b i 0 (omega (arith, m, further, own-start (shape w) b L x));
           }
 
     -- THE LAW: wherever an allocation runs

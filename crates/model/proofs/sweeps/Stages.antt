@@ -1,5 +1,5 @@
 -- The bytes that a sweep leaves: the picture of each stage is drawn over those before it.
-use Prim.Native.Nat.{ℕ, zero, suc, _+_, _%_, _≤_}
+use Prim.Native.Nat.{ℕ, zero, suc, _+_, _%_, _≤_, _<_}
 use mathlib.Core.Path.{_≡_, refl, sym, ap, subst, _∙_}
 use mathlib.Core.List.{List, []}
 use native.Mathlib.Omega.{arith}
@@ -7,6 +7,7 @@ use lib.ListN.{length, getD}
 use Rattle.words.specs.Word.{Bytes}
 use Rattle.words.specs.Width.{Width}
 use Rattle.model.specs.Shape.{Shape, shape, endOf}
+use Rattle.model.specs.Parts.{magicBytes}
 use Rattle.model.specs.Picture.{draw}
 use Rattle.model.specs.Layout.{Layout, headOf, words}
 use Rattle.model.specs.Sound.{times, Valid, Here}
@@ -18,7 +19,7 @@ use Rattle.model.specs.inner.Laid.{Tiled, Laid, Linkable}
 use Rattle.model.proofs.Good.{shape-good}
 use Rattle.model.proofs.items.Aligned.{laid}
 use Rattle.model.proofs.lives.Payloads.{tiled-kept}
-use Rattle.model.proofs.pictures.Drawn.{tiled, drawn-magic, drawn-shown, drawn-here, drawn-same}
+use Rattle.model.proofs.pictures.Drawn.{tiled, magic-stays, drawn-magic, drawn-shown, drawn-here, drawn-same}
 use Rattle.model.proofs.pictures.Heads.{empty-list, none-idle}
 use Rattle.model.proofs.pictures.Shown.{head-read}
 use Rattle.model.proofs.pictures.Pictures.{length-draw, bytes-draw, draw-twice}
@@ -75,13 +76,14 @@ module _ {w : ℕ} (wd : Width w) where
         shown = rw n (drawn-shown (shape w) (shape-good wd) b M v short);
       }
 
-  -- when k pages are given back the heap is laid out, and no live payload is changed
+  -- when k pages are given back the heap is laid out, and neither a live payload nor the magic number is changed
   pub record Stage (b : List ℕ) (L : Layout) (k : ℕ) : Type 0 where
     pub laid : Laid w (recoveredBytes (shape w) k L b) (recovered (shape w) k L)
     pub kept : (x : Payload) → x ∈ live (shape w) L → content (recoveredBytes (shape w) k L b) x ≡ content b x
+    pub magic : (i : ℕ) → i < magicBytes → getD (recoveredBytes (shape w) k L b) i 0 ≡ getD b i 0
 
   pub recovered-stage : (b : List ℕ) (L : Layout) → Laid w b L → length b ≤ shape w .most → (k : ℕ) → k ≤ empties (L .blocks) → Stage b L k
-  recovered-stage b L h short zero l = unfold recoveredBytes recovered in record { laid = h; kept = λ x i. refl }
+  recovered-stage b L h short zero l = unfold recoveredBytes recovered in record { laid = h; kept = λ x i. refl; magic = λ i l. refl }
   recovered-stage b L h short (suc k) l = go (recovered-stage b L h short k (omega arith))
     where
       before : List ℕ
@@ -103,6 +105,7 @@ module _ {w : ℕ} (wd : Width w) where
             kept = λ x i.
                 rw (recovered-drawn (shape w) k L b)
                 (tiled-kept (shape w) (endOf (length before)) next before fits x (subst (λ (l : List Payload). x ∈ l) (sym (given .live)) i) ∙ r .kept x i);
+            magic = λ i l. rw (recovered-drawn (shape w) k L b) (magic-stays (shape w) (shape-good wd) before next fits (omega (arith, short, recovered-length (shape w) k L b)) i l ∙ r .magic i l);
           }
 
   -- and a class whose list is empty has no free item
@@ -156,6 +159,13 @@ module _ {w : ℕ} (wd : Width w) where
     -- THE LAW: the bytes that are left have the layout that is left
     pub swept-here : Here (shape w) sweptBytes (sweptLayout (shape w) L)
     swept-here = rw swept-is (drawn-here (shape w) (shape-good wd) last (sweptLayout (shape w) L) (stage .laid .magic) valid (omega (arith, short, same)))
+
+    -- they were drawn over others, and only the magic number is left of these before the data area
+    pub swept-drawn : (c : List ℕ) × (length c ≡ length b) × (sweptBytes ≡ drawn (shape w) (sweptLayout (shape w) L) c)
+    swept-drawn = (last, same, swept-is)
+
+    pub swept-magic : (i : ℕ) → i < magicBytes → getD sweptBytes i 0 ≡ getD b i 0
+    swept-magic i l = rw swept-is (magic-stays (shape w) (shape-good wd) last (sweptLayout (shape w) L) (tiled (shape w) valid) (omega (arith, short, same)) i l ∙ stage .magic i l)
 
     pub swept-length : length sweptBytes ≡ length b
     swept-length = ap length swept-is ∙ length-draw w (words (shape w) (endOf (length last)) (sweptLayout (shape w) L)) last ∙ same
