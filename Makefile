@@ -85,13 +85,13 @@ files:
 
 # The example hosts in C, built with what install gives; the console's on a heap that begins small and grows, told by `show`, and in a
 # buffer in which most is refused; the ward's remark, shortened on a full heap; the form editor, that asks before a record moves; the
-# morning's start-up, of which `show`, and the second program too, tell what a sweep gave back; the handset that takes over the
-# console's records, told by `show` too; and the upgrade, on a heap from before classes were closed, of which both tell how an old page
-# leaves.
+# morning's start-up, of which `show`, and the second program too, tell what a sweep gave back; two lists on one heap that is opened
+# once, of which both tell that nothing is left between them; the handset that takes over the console's records, told by `show` too; and
+# the upgrade, on a heap from before classes were closed, of which both tell how an old page leaves.
 # The pkg-config files lead to headers and archives, and all are C++ too.
 INSTALLED = target/installed
-EXAMPLES = console remark editor morning handset
-TOLD = console-heap morning-before morning-after handset-heap upgrade-old upgrade-before upgrade-after
+EXAMPLES = console remark editor morning lists handset
+TOLD = console-heap morning-before morning-after lists-heap handset-heap upgrade-old upgrade-before upgrade-after
 example: lib
 	$(if $(BUILT),,rt check show)
 	$(MAKE) --no-print-directory files PREFIX=$(INSTALLED)
@@ -100,6 +100,7 @@ example: lib
 	diff examples/console-small.out target/console-small.out
 	CFLAGS='-I$(INSTALLED)/include' tools/chost examples/console.c $(INSTALLED)/lib/libjagwibodu.a -- target/console-heap.heap > target/console.out
 	CFLAGS='-I$(INSTALLED)/include' tools/chost examples/morning.c $(INSTALLED)/lib/libjagwibodu.a -- target/morning-before.heap target/morning-after.heap > target/morning.out
+	CFLAGS='-I$(INSTALLED)/include' tools/chost examples/lists.c $(INSTALLED)/lib/libjagwibodu.a -- target/lists-heap.heap > target/lists.out
 	CFLAGS='-I$(INSTALLED)/include' tools/chost examples/handset.c $(LIBRARIES:%=$(INSTALLED)/lib/lib%.a) -- target/handset-heap.heap > target/handset.out
 	python3 compare/former.py target/upgrade-old.heap
 	CFLAGS='-I$(INSTALLED)/include' tools/chost examples/upgrade.c $(INSTALLED)/lib/libjagwibodu.a -- target/upgrade-old.heap target/upgrade-before.heap target/upgrade-after.heap > target/upgrade.out

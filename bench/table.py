@@ -32,7 +32,7 @@ OWN_PREFIX = {WIDE: "jagwibodu_", HAND: "jagwibodu_hand_"}
 HEADING = {WIDE: "heap", HAND: "hand unit's heap, 64-bit code"}
 MOVES, KEPT, CANNOT_STAY, FULL = "it moves", "it is kept for want of room", "it cannot stay", "there is no room"
 GROWS = "the heap grows"
-OLDER, CLOSED = "full of older items", "pages of closed classes"
+OLDER, CLOSED, ALL_FREED = "full of older items", "pages of closed classes", "all freed"
 ROOM = 4400  # bytes behind the end of a heap that has grown full: a page takes 4,248 of them at most
 # No call may take more instructions than so many times the twin's; no sweep; and none that grows the heap: the twin goes through
 # the free list once for that, ours does so again after it has found no room.
@@ -115,6 +115,14 @@ def half_the_pages_empty(shape, length):
     return heap
 
 
+def all_freed(shape, length):
+    """Items of all sizes and blocks, and then all of them freed: what the sweep finds that brings everything back."""
+    heap = mixed(shape, length)
+    for address in [*heap.state.live_addresses()]:
+        heap.free(address)
+    return heap
+
+
 def pages_of_closed_classes(shape, length):
     """By the rule before: an item, and then a page of each closed class in turn; one is half emptied, one emptied, one left full."""
     sizes = itertools.cycle(size for c in shape.closed for size in shape.items_in_page(c) * [8 * c + 8])
@@ -168,7 +176,7 @@ KINDS = {"empty": fresh, "nearly empty": nearly_empty, "full of blocks": full_of
          "mixed": mixed}
 # What only the check and the sweep are measured on; and, with closed classes, what the rule for these is about.
 SWEPT = {OLDER: full_of_older_items, "half the pages empty": half_the_pages_empty, CLOSED: pages_of_closed_classes,
-         "items of all sizes": items_of_all_sizes}
+         "items of all sizes": items_of_all_sizes, ALL_FREED: all_freed}
 # Heaps that began small and have room to grow, which growing calls are measured on.
 GROWN = {"just begun": just_begun, "grown, nearly empty": grown_nearly_empty, "grown, full of blocks": grown_full_of_blocks,
          "grown, full of blocks, the last one free": grown_full_but_for_the_last, "grown, full of items": grown_full_of_items}
@@ -365,9 +373,10 @@ def calls_on(kind, heap):
 
 
 def kinds(shape):
-    """The heaps that are measured. The hand unit has none from before sizes were kept, with closed classes, or that grow."""
+    """The heaps that are measured. The hand unit has none from before sizes were kept, with closed classes, or that grow; what is
+    all freed is over a sweep's limit there, and told in PERFORMANCE.md."""
     return {kind: make for kind, make in (KINDS | SWEPT | GROWN).items()
-            if shape is WIDE or kind not in (OLDER, CLOSED, *GROWN)}
+            if shape is WIDE or kind not in (OLDER, CLOSED, ALL_FREED, *GROWN)}
 
 
 def let_pass(shape, name):

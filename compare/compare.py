@@ -9,9 +9,10 @@ twin_" compares the plain C twin, and with "--shape hand --cflags=-DTWIN_WORD=4"
 one for the hand unit. The driver is built below target/compare. The figures that are run come first, then the sizes
 that an item's header can have, then runs on a heap and on one in a longer buffer, both as long as
 their buffers or both with the same end to begin with, heaps that are swept above all, heaps that
-grow above all, random runs on fresh heaps, on any sound ones and on old ones, made by the rule
-before classes were closed, and damaged heaps; two processes share them. A failure prints the
-calls up to the first one that differs, and the status is 1.
+grow above all, heaps of which all is freed and swept until they are fresh again, random runs on
+fresh heaps, on any sound ones and on old ones, made by the rule before classes were closed, and
+damaged heaps; two processes share them. A failure prints the calls up to the first one that
+differs, and the status is 1.
 """
 
 import argparse
@@ -29,8 +30,8 @@ from itertools import repeat
 sys.dont_write_bytecode = True  # products belong below target/
 from damage import damaged
 from heaps import Tally
-from runs import (CALLS, HABITS, RESIZES, Player, Run, before, full_of_pages, grown_run, random_run, run_and_longer, sound_heap,
-                  swept_heap, swept_run)
+from runs import (CALLS, HABITS, RESIZES, Player, Run, before, full_of_pages, grown_run, not_back, random_run, run_and_back,
+                  run_and_longer, sound_heap, swept_heap, swept_run)
 from second import FIGURES, HAND, SHAPES, VARIABLE, WIDE, Heap, played, sizes_of, start_of, used_header
 
 ROOT = os.path.dirname(os.path.dirname(os.path.abspath(__file__)))
@@ -44,6 +45,7 @@ PARTS = 2  # processes side by side: each takes every second figure, class, run 
 PAIRS = 20  # runs on a heap and on a longer one; and, where heaps grow, as many on two that begin with the same end
 SWEPT_SHARE = 333  # for so many calls in random runs there is a heap that is swept above all
 GROWN_SHARE = 200  # and, where heaps grow, one that grows above all
+BACK_SHARE = 250  # and one of which everything comes back
 # Classes whose pages fill the longest heap, and which shares of these pages are in use: the most items that there can be, in
 # pages of which many are empty; and the most pages, which all stay or all go.
 SWEPT_PAGES = {WIDE: ((0, (0, 0.5, 0.9, 1)), (1, (0.1, 0.5, 0.9, 1)), (1, (0,)), (WIDE.closed[0], (0, 0.5, 0.9, 1))),
@@ -189,6 +191,38 @@ SHARES = {
         "sweep: 0, and lists change": 2000,  # two items of a page are seldom in another order than a sweep's
     },
 }
+# Of the heaps that came back, one at least of so many.
+COMMON_BACK_SHARES = {
+    "back: a record was moved": 3,
+    "back: a record was resized in place": 3,
+    "back: a record was kept": 8,
+    "back: the heap was swept before": 10,
+    "back: refused with 4": 5,
+    "back: refused with 5": 3,
+    "back: refused with 6": 2,
+    "back: refused with 7": 6,
+    "back: nothing is live": 20,
+    "back: blocks of their own are freed": 4,
+    "back: blocks and items are freed": 6,
+    "back: freed in rising order": 16,
+    "back: freed in falling order": 18,
+    "back: freed in mixed order": 5,
+    "back: no page is given back": 6,
+    "back: one page is given back": 10,
+    "back: several pages are given back": 5,
+    "back: several pages of a class are given back": 16,
+    "back: pages of several classes are given back": 6,
+}
+BACK_SHARES = {
+    WIDE: COMMON_BACK_SHARES | {
+        "back: began with the least end": 5,
+        "back: began with an end between": 3,
+        "back: began with the whole buffer": 10,
+        "back: the heap grew": 3,
+        "back: bytes behind the end were written": 3,
+    },
+    HAND: COMMON_BACK_SHARES,
+}
 
 
 class Difference(Exception):
@@ -217,6 +251,7 @@ class Driver:
         self.program = program
         self.batch, self.waiting = [], 0
         self.measured, self.deepest, self.promised = 0, 0, 0  # calls whose stack was measured, the most bytes, the header's
+        self.back = 0  # heaps that were held against fresh ones when everything came back
 
     def add(self, run):
         self.batch.append(run)
@@ -230,6 +265,9 @@ class Driver:
         at = 0
         for run in batch:
             at = check_run(run, answers, at, status)
+            if run.fresh:
+                check_back(run)
+                self.back += 1
         if status != 0 or at + STACK.size != len(answers):
             raise SystemExit(f"compare: the driver ended with status {status}, {len(answers) - at} bytes after the last answer")
         measured, deepest, self.promised = STACK.unpack_from(answers, at)
@@ -286,7 +324,18 @@ def check_run(run, answers, at, status):
         outside = apply_ranges(got, ranges, run.around)
         if answer != second or outside or wanted != got:
             raise Difference(run, index, describe(run.shape, second, answer, wanted, got, outside))
+        if index in run.left:
+            run.left[index] = bytes(got)
     return at
+
+
+def check_back(run):
+    """Holds what the library left when everything came back against a fresh heap of its own, and against its first bytes."""
+    opened, back = run.left.values()
+    lines = not_back(run, opened, back, run.fresh.left[0])
+    if lines:
+        more = [f"and {len(lines) - 10} more bytes"] if len(lines) > 10 else []
+        raise Difference(run, len(run.steps) - 1, ["not everything came back:", *lines[:10], *more])
 
 
 def apply_ranges(got, ranges, around):
@@ -417,6 +466,17 @@ def grown_runs(shape, seed, labels, counts):
         yield run
 
 
+def back_runs(shape, seed, labels, counts):
+    """Heaps of which everything comes back, each behind one that is opened with the end that it then has."""
+    for label in labels:
+        fresh, run = run_and_back(generator(seed, label), shape, label)
+        check_second(run)
+        counts.update({case: met for case, met in run.met.items() if case.startswith("back: ")})
+        counts["back"] += 1
+        yield fresh
+        yield run
+
+
 def random_runs(shape, seed, labels, number, counts):
     """Runs until there are this many calls."""
     while counts["calls"] < number:
@@ -490,6 +550,8 @@ def one_run(shape, seed, label, counts):
         yield from swept_runs(shape, seed, [label], counts)
     elif label.startswith("grown:"):
         yield from grown_runs(shape, seed, [label], counts)
+    elif label.startswith("back:"):
+        yield from back_runs(shape, seed, [label], counts)
     elif label.startswith("run:"):
         yield random_run(rng, shape, label)
     else:
@@ -511,6 +573,7 @@ def part_of_runs(part, chosen, counts, damaged_counts):
     yield from swept_runs(shape, seed, itertools.islice(labels("swept"), chosen.number // SWEPT_SHARE // PARTS), counts)
     if shape.grows:
         yield from grown_runs(shape, seed, itertools.islice(labels("grown"), chosen.number // GROWN_SHARE // PARTS), counts)
+    yield from back_runs(shape, seed, itertools.islice(labels("back"), chosen.number // BACK_SHARE // PARTS), counts)
     yield from random_runs(shape, seed, labels("run"), chosen.number / PARTS, counts)
     yield from all_damaged_runs(shape, seed, labels("damaged"), chosen.damaged / PARTS, damaged_counts)
 
@@ -525,6 +588,7 @@ def compare_part(program, chosen, part):
     for run in runs:
         driver.add(run)
     driver.finish()
+    counts["came back"] = driver.back
     return counts, damaged_counts, driver
 
 
@@ -551,6 +615,7 @@ def demand_enough(shape, counts, damaged_counts):
     """Fails where some case was met too seldom."""
     counts.demand({case: counts["calls"] // share for case, share in SHARES[shape].items()})
     counts.demand({"pairs": PAIRS, "pairs: pages are given back": PAIRS})
+    counts.demand({"came back": counts["back"]} | {case: counts["back"] // share for case, share in BACK_SHARES[shape].items()})
     number = damaged_counts["damaged"]
     damaged_counts.demand({f"{call}: refused with 3": number // share for call, share in REFUSED_SHARES.items()})
     damaged_counts.demand(dict.fromkeys(SIZE_WAYS + BLOCK_WAYS[shape] + WORD_WAYS[shape] + END_WAYS[shape], number // WAY_SHARE))
@@ -602,11 +667,12 @@ def main():
         pairs += f" and {counts['pairs from the same end']} from the same end"
         growing = f" and {counts['grown']} that grow"
     print(f"compare: {chosen.shape.name}: {counts['figures']} figures, {counts['sizes']} sizes in headers, and from seed {chosen.seed} "
-          f"{pairs}, {counts['swept']} heaps that are swept{growing} above all, {calls} calls on {counts['heaps']} heaps "
-          f"({counts['old heaps']} of them old) and {damaged_counts['damaged']} damaged heaps "
+          f"{pairs}, {counts['swept']} heaps that are swept{growing} above all, {counts['came back']} heaps that came back, "
+          f"{calls} calls on {counts['heaps']} heaps ({counts['old heaps']} of them old) and {damaged_counts['damaged']} damaged heaps "
           f"({damaged_counts['still sound']} of them still sound) agree, {stack}, {time.monotonic() - began:.0f} s")
     counts.update(damaged_counts)
-    print("compare: among them " + ", ".join(f"{counts[case]} of '{case}'" for case in SHARES[chosen.shape]))
+    print("compare: among them " + ", ".join(
+        f"{counts[case]} of '{case}'" for case in (*SHARES[chosen.shape], *BACK_SHARES[chosen.shape])))
     return 0
 
 

@@ -211,6 +211,51 @@ def how_linked_anew(state, old_lists):
                 yield "equal pages change places" if equal else "unequal pages change places"
 
 
+def what_came_before(run, opened):
+    """What there was, since a step that opened the heap, of which nothing may be left when everything comes back."""
+    calls = [step for step in run.steps[opened + 1:] if step.name != "poke"]
+    resized = [step for step in calls if step.name in RESIZES and step.answer >> 32 == GRANTED]
+    if any(step.answer != step.arguments[0] for step in resized):
+        yield "a record was moved"
+    if any(step.answer == step.arguments[0] and step.writes for step in resized):
+        yield "a record was resized in place"
+    if run.heap.kept:
+        yield "a record was kept"
+    if any(step.name == "sweep" and step.writes for step in calls):
+        yield "the heap was swept before"
+    yield from (f"refused with {refusal}" for refusal in {step.answer >> 32 for step in calls} - {GRANTED})
+    if run.shape.grows:
+        least, most = (run.steps[opened].arguments == (end,) for end in (run.shape.shortest, run.buffer_end()))
+        yield f"began with {'the least end' if least else 'the whole buffer' if most else 'an end between'}"
+        if run.heap.grown:
+            yield "the heap grew"
+        if run.met["bytes behind the end are written"]:
+            yield "bytes behind the end were written"
+
+
+def what_is_freed(run, order):
+    """What is special about the order in which all that is live is freed."""
+    rising, kinds = sorted(order), {run.record(address).c is None for address in order}
+    if not order:
+        yield "nothing is live"
+    if len(order) > 1:
+        yield f"freed in {'rising' if order == rising else 'falling' if order == rising[::-1] else 'mixed'} order"
+    if True in kinds:
+        yield "blocks of their own are freed"
+    if len(kinds) > 1:
+        yield "blocks and items are freed"
+
+
+def what_is_swept(state):
+    """How many pages the last sweep gives back, of a heap in which nothing is live."""
+    pages = [*state.page_class.values()]
+    yield f"{'several pages are' if len(pages) > 1 else 'one page is' if pages else 'no page is'} given back"
+    if len({*pages}) < len(pages):
+        yield "several pages of a class are given back"
+    if len({*pages}) > 1:
+        yield "pages of several classes are given back"
+
+
 def what_is_old(state):
     """What a heap has of closed classes."""
     closed = {page: c for page, c in state.page_class.items() if c in state.shape.closed}
@@ -257,6 +302,8 @@ class Run:
             raise SystemExit(f"compare: {label}: the second program refuses a {origin}")
         self.old_pages = self.pages_of_closed_classes()
         self.steps = []
+        self.left = {}  # what the library left, by the indices of the steps after which it shall be noted: compare.py does
+        self.fresh = None  # of a run after which everything came back: the run that opens a heap with the same end
         self.calls = 0
         self.met = Counter(f"old heap: {case}" for case in set(what_is_old(self.heap.state) if origin == "old heap" else ()))
         self.commands = bytearray(struct.pack("<cQQ", b"S", shift, len(start)) + self.start)
@@ -746,6 +793,10 @@ class Player:
             header = self.shape.words.pack(used_header(state.page_class[page], 0))
             self.run.poke(start, header * ((stop - start) // len(header)))
 
+    def other_place(self):
+        """Where other bytes may be anything, and how many."""
+        return free_interior(self.rng, self.run.heap.state, len(self.run.heap.data))
+
     def poke_any(self):
         """Writes into a live payload or into other bytes that may be anything."""
         rng, heap = self.rng, self.run.heap
@@ -753,7 +804,7 @@ class Player:
             start = rng.choice(self.live)
             room = heap.state.capacity(start)
         else:
-            start, room = free_interior(rng, heap.state, len(heap.data))
+            start, room = self.other_place()
         content = forged_words(rng, heap.state) if rng.random() < 0.5 else rng.randbytes(rng.randint(1, 80))
         offset = rng.randrange(max(1, room - len(content) + 1))
         if rng.random() < 0.5:
@@ -808,6 +859,59 @@ class Player:
         run.poke(self.rng.randrange(8), b"\x00")
         run.heap.decode()
         run.initialise(good_end(self.rng, self.shape, len(run.heap.data)))
+
+
+class Client(Player):
+    """Plays what may come before everything comes back: writes into live payloads, and behind the heap's end, only."""
+
+    def other_place(self):
+        state = self.run.heap.state
+        return state.end, len(self.run.heap.data) - state.end
+
+    def poke(self):
+        (self.poke_forged if self.live and self.rng.random() < 0.1 else self.poke_any)()
+
+    def fill_pages(self):
+        """Takes more items of a class than a page has, while there is room."""
+        c = self.rng.randrange(self.shape.offered)
+        for _ in range(self.shape.items_in_page(c) + self.rng.randint(1, 10)):
+            refusal, address = self.run.allocate(self.rng.choice(sizes_of(c)))
+            if refusal:
+                return
+            self.add(address)
+
+    def refused(self):
+        """A call that is refused with 4, 5, 6 or 7: no heap has room for the largest size."""
+        run, rng, most = self.run, self.rng, self.shape.largest_size
+        gone = rng.choice([0, *(address for address in self.dead if address not in self.place)])
+        rng.choice((lambda: run.initialise(self.end()), lambda: run.allocate(rng.choice((0, most, most + 1))),
+                    lambda: run.free(gone), lambda: run.resize(rng.choice(RESIZES), rng.choice([gone, *self.live]), most)))()
+
+    def between(self):
+        """Now and then what leaves all records as they are."""
+        if self.rng.random() < 0.2:
+            self.rng.choice((self.poke, self.refused, lambda: self.run.call("check")))()
+
+    def order(self):
+        """All that is live in the order in which it is freed: some rising, some falling, most in any."""
+        order = sorted(self.live, reverse=self.rng.random() < 0.5)
+        if self.rng.random() < 0.8:
+            self.rng.shuffle(order)
+        return order
+
+    def bring_back(self):
+        """Frees all that is live, and sweeps."""
+        run, order = self.run, self.order()
+        run.met.update(f"back: {case}" for case in what_is_freed(run, order))
+        refusals = []
+        for address in order:
+            self.between()
+            refusals.append(run.free(address))
+            self.remove(address)
+        self.between()
+        run.met.update(f"back: {case}" for case in what_is_swept(run.heap.state))
+        if any((*refusals, run.sweep()[0])):
+            raise SystemExit(f"compare: {run.label}: the second program refuses a free of what is live, or a sweep")
 
 
 def page_size(rng, shape, c):
@@ -1040,3 +1144,42 @@ def run_and_longer(rng, shape, label, same_start):
         if step.answer != refusal << 32 | given:
             raise SystemExit(f"compare: {label}: the second program answers {refusal} {given} to {step.name} on the longer heap")
     return shorter, longer
+
+
+def back_length(rng, shape):
+    """The length of a buffer in which everything comes back: most have room for some pages, few are long."""
+    habits = HABITS[shape]
+    ranges = habits.tiny, habits.first_page, *habits.played[:2], habits.long
+    return rng.randint(*rng.choices(ranges, (6, 10, 52, 30, 2))[0])
+
+
+def not_back(run, opened, back, anew):
+    """Where the bytes that are left when everything came back differ from a heap's that was opened with the same end, in all
+    that is before the blocks and in tags and links of the free block; and from those when this heap itself was opened."""
+    shape, end, links = run.shape, run.heap.state.end, 2 * run.shape.word
+    grew = range(shape.stored_end, shape.stored_end + shape.word) if run.heap.grown else ()
+    lines = [f"byte {p}: {back[p]}, but {anew[p]} in a heap opened with the end {end}"
+             for p in (*range(shape.data_area + links), *range(end - links, end)) if back[p] != anew[p]]
+    return lines + [f"byte {p}: {back[p]}, but {opened[p]} when this heap was opened"
+                    for p in range(shape.data_area) if p not in grew and back[p] != opened[p]]
+
+
+def run_and_back(rng, shape, label):
+    """A run that opens a heap with the end that another run's heap has when everything came back, and that other run: any calls on
+    a fresh heap, then all that is live is freed in any order, and a sweep. What both leave is alike: document 02, (xii)."""
+    length = back_length(rng, shape)
+    run = Run(shape, label, garbage(rng, shape, length), rng.randrange(8), "garbage")
+    player = Client(rng, run, rng.choice((MOODS, MOODS_FOR_GROWTH)))
+    player.begin()
+    opened, bytes_then = len(run.steps) - 1, bytes(run.heap.data)
+    if rng.random() < 0.2:
+        player.fill_pages()
+    player.play(rng.choice((rng.randint(0, 10), rng.randint(10, 60), rng.randint(40, 120))))
+    run.met.update(f"back: {case}" for case in what_came_before(run, opened))
+    player.bring_back()
+    fresh = Run(shape, label, rng.randbytes(length), rng.randrange(8), "garbage")
+    fresh.initialise(run.heap.state.end if shape.grows else None)
+    if run.heap.state != fresh.heap.state or not_back(run, bytes_then, run.heap.data, fresh.heap.data):
+        raise SystemExit(f"compare: {label}: of the second program's heap not everything came back")
+    run.fresh, run.left, fresh.left = fresh, dict.fromkeys((opened, len(run.steps) - 1)), {0: None}
+    return fresh, run

@@ -864,6 +864,12 @@ STALE_GROWN = [("put", p, 0x6666666666666666, 2, 0) for p in (320, 328, 336, 344
 THREE_BLOCKS = [SMALL] + [("allocate", 300, 0, a) for a in (320, 640, 960)] + [("free", 320, 0, 0)]
 LAST_FREE = THREE_BLOCKS + [("free", 960, 0, 0)]
 STALE_BEHIND = [("put", p, 0x7777777777777777, 0, 0) for p in range(1272, 1713, 8)]
+# records of four kinds, of which one is shrunk and one moved, on a fresh heap or a small one, freed in another order, and a sweep:
+# what (xii) is told of; and then all words before the blocks, but for the end
+RECORDS = [("allocate", 256, 0, 320), ("allocate", 1, 0, 600), ("allocate", 24, 0, 4728), ("allocate", 300, 0, 8864),
+           ("resize", 320, 200, 0, 320), ("move", 600, 8, 0, 616)]
+ALL_FREED = [("free", a, 0, 0) for a in (8864, 616, 320, 4728)] + [("sweep", 0, 2)]
+FRESH_WORDS = {0: 0x01636f6c6c617978, 8: 312, 16: 48, 24: 312, 40: 275} | dict.fromkeys(range(48, 304, 8), 0) | {304: 275}
 # ends that no heap in a buffer of 10,007 bytes may have
 BAD_ENDS = (0, 8, 312, 336, 340, 343, 345, 348, 9999, 10001, 10004, 10007, 10008, 1048576, 2**32 + 344, 2**63 + 344, 2**64 - 8,
             2**64 - 1)
@@ -878,6 +884,12 @@ HAND_STALE = [("put", p, value, 0, 0) for p, value in zip(range(436, 452, 4), 2 
 # 300 and 16, and the first is freed again: a hole of 312 bytes; and a block of 608
 HAND_HOLE = HAND_REMARK[:3] + [("free", 100, 0, 0)]
 HAND_BLOCK = [OPENED, ("allocate", 600, 0, 100)]
+
+# What (xii) is told of, in 1,000 bytes
+HAND_RECORDS = [("allocate", 256, 0, 100), ("allocate", 1, 0, 368), ("allocate", 24, 0, 400), ("allocate", 300, 0, 460),
+                ("resize", 100, 200, 0, 100), ("move", 368, 8, 0, 380)]
+HAND_ALL_FREED = [("free", a, 0, 0) for a in (460, 380, 100, 400)] + [("sweep", 0, 2)]
+HAND_FRESH_WORDS = {0: 0x6c617978, 4: 0x02636f6c, 8: 96, 12: 28, 16: 96, 24: 75} | dict.fromkeys(range(28, 92, 4), 0) | {92: 75}
 
 # Class 0: of two pages the first records are freed, and of a third the only one
 HAND_PAGES = [OPENED] + [("allocate", 1, 0, a) for a in (104, 116, 136, 148, 168)] + [("free", a, 0, 0) for a in (104, 136, 168)]
@@ -1033,6 +1045,10 @@ FIGURES = {BEFORE: {
         ("put", 32, 632, 0, 0), ("free", 640, 5, 0), ("allocate", 301, 0, 640)], {24: 0, 32: 952}, {640: 304}),
     "old-page-and-growth": ((10000, [SMALL] + OLD_RECORDS[1:]), [("allocate", 256, 0, 4560), ("move", 592, 250, 0, 4832)],
                             {24: 0, 32: 5096, 296: 536, 584: 12925, 4552: 274, 4824: 274}, {592: 0, 4832: 256}),
+    "everything-back": (10000, [OPENED] + RECORDS + ALL_FREED,
+                        FRESH_WORDS | {32: 10000, 312: 9688, 320: 0, 9984: 0, 9992: 9688}, {}),
+    "everything-back-of-a-heap-that-grew": (10000, [SMALL] + RECORDS + ALL_FREED,
+                                            FRESH_WORDS | {32: 9176, 312: 8864, 320: 0, 9160: 0, 9168: 8864, 9176: 0}, {}),
     "sweep-of-no-heap": (10000, [("sweep", 2, 0)], {}, {}),
     "sweep-of-a-damaged-heap": (10000, TWO_PAGES + [("put", 312, 4227, 3, 0), ("sweep", 3, 0)], {}, {}),
 }, HAND: {
@@ -1081,6 +1097,8 @@ FIGURES = {BEFORE: {
     "page-given-back": (1000, HAND_PAGES + [("sweep", 0, 1), ("sweep", 0, 0)],
                         {16: 160, 28: 72, 100: 1665, 132: 1, 160: 840, 188: 35, 996: 840}, {104: 0, 116: 1, 148: 1}),
     "lower-page-first": (1000, HAND_PAGES + [("sweep", 0, 1)] + [("allocate", 1, 0, a) for a in (104, 136, 168)], {}, {}),
+    "everything-back": (1000, [OPENED] + HAND_RECORDS + HAND_ALL_FREED,
+                        HAND_FRESH_WORDS | {20: 1000, 96: 904, 100: 0, 992: 0, 996: 904}, {}),
     "sweep-of-no-heap": (1000, [("sweep", 2, 0)], {}, {}),
     "sweep-of-a-damaged-heap": (1000, HAND_PAGES + [("put", 160, 43, 3, 0), ("sweep", 3, 0)], {}, {}),
     "another-end": (1000, [OPENED, ("allocate", 300, 0, 100), ("allocate", 584, 0, 412), ("put", 20, 408, 3, 0),

@@ -23,6 +23,12 @@
    below its end it is refused with 3. A heap of a version before 1.7 ends at JAGWIBODU_END(length), and those versions
    refuse one that does not with 3.
 
+   Between two lists: when all records have been freed, in any order, one jagwibodu_sweep brings the heap back to what
+   jagwibodu_initialise leaves, so it need not be opened again. A heap that grew stays grown: it is as if it had been
+   opened with the end that it has by then. What the records held is not cleared: where nobody may read it any more,
+   clear the whole buffer, and then initialise. All this is of a heap that jagwibodu_initialise opened and that was used
+   by these calls alone, refused ones too, while the caller wrote inside live records and behind the end only.
+
    Opening a buffer: call jagwibodu_check. 0: it holds a sound heap, go on. 2: it holds none, call jagwibodu_initialise.
    3: it holds a damaged one; to start anew clear its first 8 bytes, and then initialise (which else answers 7).
 
@@ -87,8 +93,9 @@ uint64_t jagwibodu_free(uint8_t *buffer, size_t length, uint64_t address);
 
 /* Makes free room again of every page that holds no record, and answers how many these were. The records that are made
    next then go where most others are, so that the emptier pages may run empty. No record moves and none changes; a
-   second sweep straight after answers 0 and changes no byte. To be called now and then, when many small records have
-   gone. Refused with 1, 2 or 3. */
+   second sweep straight after answers 0 and changes no byte. Where no record is live, the heap is then as freshly
+   opened with the end that it has (see "Between two lists"). To be called there, and now and then, when many small
+   records have gone. Refused with 1, 2 or 3. */
 uint64_t jagwibodu_sweep(uint8_t *buffer, size_t length);
 
 #ifdef __cplusplus

@@ -5,9 +5,9 @@
    All is as jagwibodu.h says of the console's heap, but for these: a buffer has JAGWIBODU_HAND_SHORTEST to
    JAGWIBODU_HAND_LONGEST bytes; a page holds two records, and those of more than 128 bytes never stood in pages;
    addresses are multiples of 4 from the buffer's start; and the heap does not grow: it takes the whole buffer from the
-   beginning, so initialise is given no end and never answers 8. A heap of the one kind is refused by the calls of the
-   other with JAGWIBODU_NOT_OPENED, since its first 8 bytes differ. The archives for both may be linked into one
-   program. */
+   beginning, so initialise is given no end and never answers 8, and a heap that comes back between two lists has the
+   end that it was opened with. A heap of the one kind is refused by the calls of the other with JAGWIBODU_NOT_OPENED,
+   since its first 8 bytes differ. The archives for both may be linked into one program. */
 #ifndef JAGWIBODU_HAND_H
 #define JAGWIBODU_HAND_H
 
