@@ -70,6 +70,9 @@ pub record Reply : Type 0 where
   pub refusal : ℕ
   pub address : ℕ
 
+abbrev pub replied : Outcome → Reply
+replied r = record { refusal = r .refusal; address = r .address }
+
 -- the addresses of payloads
 unfoldable pub addresses : List Payload → List ℕ
 addresses [] = []
@@ -336,7 +339,7 @@ module _ (S : Shape) where
   pub data Run (May : Call → Type 0) : List ℕ → List Call → List Reply → List ℕ → Type 0 where
     over : {b : List ℕ} → Run May b [] [] b
     call : {b : List ℕ} (b′ : List ℕ) {q : Call} {qs : List Call} {r : Outcome} {rs : List Reply} {c : List ℕ}
-        → Written b b′ → May q → Comes b′ q r → Run May (r .heap) qs rs c → Run May b (q ∷ qs) (record { refusal = r .refusal; address = r .address } ∷ rs) c
+        → Written b b′ → May q → Comes b′ q r → Run May (r .heap) qs rs c → Run May b (q ∷ qs) (replied r ∷ rs) c
 
   -- two fresh heaps, one in a longer buffer: the same run gives the same answers, as long as the one in the shorter never says "no room"
   abbrev pub AgreeFrom : List ℕ → ℕ → List ℕ → ℕ → Type 0

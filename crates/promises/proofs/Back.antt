@@ -18,7 +18,7 @@ use Rattle.model.specs.Sound.{Valid, Here, storedEnd, HereIn}
 use Rattle.model.specs.Rules.{Found, block, thing, nothing, find, fresh}
 use Rattle.model.specs.Live.{_∈_, live}
 use Rattle.model.specs.Calls.{Outcome, Lent, ordinary, fronted, drawn, without, sweptAll}
-use Rattle.model.specs.Promises.{freeing, sweeping, Any, freeingAll, Reply, Comes, Run, AsFresh, EverythingBack}
+use Rattle.model.specs.Promises.{freeing, sweeping, Any, freeingAll, Reply, replied, Comes, Run, AsFresh, EverythingBack}
 use Rattle.model.proofs.Good.{shape-good}
 use Rattle.model.proofs.pictures.Pictures.{length-draw, draw-agree}
 use Rattle.model.proofs.pictures.Drawn.{tiled}
@@ -35,7 +35,7 @@ use Rattle.promises.proofs.Opened.{opened-fresh}
 use Rattle.promises.proofs.Doing.{does}
 use Rattle.promises.proofs.Ends.{end-stays}
 use Rattle.promises.proofs.SweepKept.{own, on, leaves}
-use Rattle.promises.proofs.Runs.{First, Parted, parted, lent-same, ran, replied}
+use Rattle.promises.proofs.Runs.{First, Parted, parted, lent-same, ran}
 
 module _ {w : ℕ} (wd : Width w) where
   -- bytes over which the layout of a fresh heap with the end e was drawn, and what is behind that end

@@ -12,16 +12,13 @@ use Rattle.model.specs.Layout.{Layout}
 use Rattle.model.specs.Sound.{Valid, storedEnd, heapOf, HereIn}
 use Rattle.model.specs.Live.{_∈_}
 use Rattle.model.specs.Calls.{Outcome, Lent}
-use Rattle.model.specs.Promises.{Call, Comes, Written, Reply, Run, over, call}
+use Rattle.model.specs.Promises.{Call, Reply, replied, Comes, Written, Run, over, call}
 use Rattle.model.proofs.lives.Payloads.{in-area}
 use Rattle.model.proofs.pictures.Written.{written-end, written-here}
 use Rattle.model.proofs.pictures.Fronts.{own-start, own-ends}
 use Rattle.model.proofs.rules.OnLayouts.{doing}
 use Rattle.model.proofs.rules.Twins.{SameDone}
 use Rattle.promises.proofs.Doing.{does}
-
-abbrev pub replied : Outcome → Reply
-replied r = record { refusal = r .refusal; address = r .address }
 
 module _ {w : ℕ} (wd : Width w) where
   -- a buffer of the same length is lent as well
