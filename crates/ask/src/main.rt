@@ -1,4 +1,8 @@
 // Answers the questions on heaps that standard input holds.
-fn main() {
-    asking::run();
+#![tactic(auto)]
+
+use std::io;
+
+fn main(rt: HostRuntime) -> io::Result<()> {
+    asking::run(&rt)
 }

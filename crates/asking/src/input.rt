@@ -1,36 +1,54 @@
-// What is read of standard input, and what is said where it is not as it should be.
+// What is read of the input, and why the program stops where that is not as it should be.
+use filling::read_full;
+use std::io::{Read, Write};
+use std::{fmt, io};
 use words::word;
 
-// A number of the input; or the input ends before it, or within it.
-#[derive(Drop)]
-pub enum Number {
-    Is(u64),
+// Why the program stops before the input ends; or a read or a write failed.
+#[derive(Debug, Drop)]
+pub enum Reason {
     CutShort,
-    Ended,
+    HeapTooLong,
+    NoSuchQuestion,
+    Failed(io::Error),
+}
+
+impl fmt::Display for Reason {
+    fn fmt<W: fmt::Write>(&self, f: &mut fmt::Formatter<W>) -> fmt::Result {
+        match self {
+            Reason::CutShort => write!(f, "the input is cut short"),
+            Reason::HeapTooLong => write!(f, "a heap is too long"),
+            Reason::NoSuchQuestion => write!(f, "there is no such question"),
+            Reason::Failed(e) => write!(f, "{e}"),
+        }
+    }
+}
+
+impl From<io::Error> for Reason {
+    fn from(e: io::Error) -> Reason {
+        Reason::Failed(e)
+    }
 }
 
 // The bytes of a number.
 const NUMBER: usize = 8;
 
-pub fn read_number() -> Number {
+// A number of the input; or none, where it has ended.
+pub fn read_number<R: Read>(input: &mut R) -> Result<Option<u64>, Reason> {
     let mut bytes = [0u8; NUMBER];
-    let got = io::read_full(0, &mut bytes);
-    if got == 0 {
-        return Number::Ended;
+    match read_full(input, &mut bytes)? {
+        0 => Ok(None),
+        NUMBER => Ok(Some(word(NUMBER, &bytes, 0) as u64)),
+        _ => stop_short(),
     }
-    if got < NUMBER {
-        return Number::CutShort;
-    }
-    let n = word(NUMBER, &bytes, 0);
-    Number::Is(n as u64)
 }
 
-// Says why the program ends, and that it does.
-pub fn stop(why: &[u8]) -> bool {
-    io::write_all(1, why);
-    false
+// The input ends where it should go on.
+pub fn stop_short<T>() -> Result<T, Reason> {
+    Err(Reason::CutShort)
 }
 
-pub fn stop_short() -> bool {
-    stop(b"stop: the input is cut short\n")
+// Says why the program ends.
+pub fn stop<W: Write>(out: &mut W, why: &Reason) -> io::Result<()> {
+    writeln!(out, "stop: {why}")
 }

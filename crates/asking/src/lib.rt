@@ -1,85 +1,81 @@
-// Questions on heaps: standard input holds a heap and questions on it, again and again; each is answered in turn.
+// Questions on heaps: the input holds a heap and questions on it, again and again; each is answered in turn.
 // A heap is its length and its bytes, then the number of questions, and each question a byte of kind and a number. Numbers have 8 bytes,
 // the lowest first. Input that is not so is told, and ends the program.
+#![tactic(auto)]
+
 pub mod answers;
 pub mod input;
 pub mod payload;
 
 use crate::answers::answer;
-use crate::input::{Number, read_number, stop, stop_short};
+use crate::input::{Reason, read_number, stop, stop_short};
+use filling::fill;
 use showing::room;
+use std::io;
+use std::io::{Input, Read, Write};
 
-// Reads and answers a question. Whether it could be.
-fn turn(h: &mut [u8]) -> bool {
+// Reads and answers a question.
+fn turn<R: Read, W: Write>(input: &mut R, out: &mut W, h: &mut [u8]) -> Result<(), Reason> {
     let mut kind = [0u8; 1];
-    let got = io::read_full(0, &mut kind);
-    if got == 0 {
+    if !fill(input, &mut kind)? {
         return stop_short();
     }
-    let n = read_number();
-    match n {
-        Number::Is(x) => answer(h, kind[0], x),
-        _ => stop_short(),
-    }
-}
-
-// So many questions on a heap. Whether all could be answered.
-fn answer_all(h: &mut [u8], count: u64) -> bool {
-    let mut left = count;
-    while left != 0 {
-        let more = turn(h);
-        if !more {
-            return false;
-        }
-        left -= 1;
-    }
-    true
+    let Some(n) = read_number(input)? else {
+        return stop_short();
+    };
+    answer(out, h, kind[0], n)
 }
 
 // The questions on a heap that has been read.
-fn questions(h: &mut [u8]) -> bool {
-    let n = read_number();
-    match n {
-        Number::Is(count) => answer_all(h, count),
-        _ => stop_short(),
+fn questions<R: Read, W: Write>(input: &mut R, out: &mut W, h: &mut [u8]) -> Result<(), Reason> {
+    let Some(count) = read_number(input)? else {
+        return stop_short();
+    };
+    for _ in 0..count {
+        turn(input, out, h)?;
     }
+    Ok(())
 }
 
 // A heap of n bytes, read into the buffer, and the questions on it.
-fn heap_of(buffer: &mut [u8], n: u64) -> bool {
+fn heap_of<R: Read, W: Write>(
+    input: &mut R,
+    out: &mut W,
+    buffer: &mut [u8],
+    n: u64,
+) -> Result<(), Reason> {
     let length = n as usize;
     if buffer.len() < length {
-        return stop(b"stop: a heap is too long\n");
+        return Err(Reason::HeapTooLong);
     }
-    let got = io::read_full(0, &mut buffer[0..length]);
-    if got < length {
+    if !fill(input, &mut buffer[..length])? {
         return stop_short();
     }
-    questions(&mut buffer[0..length])
-}
-
-// A heap and the questions on it, where the input has one more.
-fn next_heap(buffer: &mut [u8]) -> bool {
-    let n = read_number();
-    match n {
-        Number::Is(length) => heap_of(buffer, length),
-        Number::CutShort => stop_short(),
-        Number::Ended => false,
-    }
+    questions(input, out, &mut buffer[..length])
 }
 
 // Every heap in turn. A proved loop has to end: it counts the heaps, to a number that no input reaches.
-fn answer_heaps(buffer: &mut [u8]) {
-    let mut n: u64 = 0;
-    let mut more = true;
-    while n < u64::MAX && more {
-        more = next_heap(buffer);
-        n += 1;
+fn answer_heaps<R: Read, W: Write>(
+    input: &mut R,
+    out: &mut W,
+    buffer: &mut [u8],
+) -> Result<(), Reason> {
+    for _ in 0..u64::MAX {
+        let Some(length) = read_number(input)? else {
+            return Ok(());
+        };
+        heap_of(input, out, buffer, length)?;
     }
+    Ok(())
 }
 
 // The questions of standard input.
-pub fn run() {
+pub fn run(rt: &(impl Input + Print)) -> io::Result<()> {
+    let mut out = io::writer(rt);
     let mut buffer = room();
-    answer_heaps(&mut buffer);
+    match answer_heaps(&mut rt.reader(), &mut out, &mut buffer) {
+        Ok(()) => Ok(()),
+        Err(Reason::Failed(e)) => Err(e),
+        Err(why) => stop(&mut out, &why),
+    }
 }

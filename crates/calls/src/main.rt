@@ -1,4 +1,8 @@
 // The call-list program, on document 01's example.
-fn main() {
-    listing::run();
+#![tactic(auto)]
+
+use std::io;
+
+fn main(rt: HostRuntime) -> io::Result<()> {
+    listing::run(&rt)
 }

@@ -1,4 +1,6 @@
 // Where the heap in a buffer ends: what it names, and whether a heap may end there.
+#![tactic(auto)]
+
 ghost use Rattle.std.specs.Prelude.{◌≡◌, ◌≤◌, length};
 ghost use Rattle.words.specs.Width.{Width};
 ghost use Rattle.model.specs.Shape.{shape, start, shortest};

@@ -10,7 +10,7 @@ use model::{
 use words::word;
 
 // What an allocation finds: the address of a payload, or no room.
-#[derive(Drop)]
+#[derive(Clone, Copy)]
 pub enum Taken {
     At(Address),
     NoRoom,

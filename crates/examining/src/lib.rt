@@ -1,4 +1,6 @@
 // What a call finds first, before it does anything: whether the buffer can be a heap, holds one and is sound, and whether a size can be asked for.
+#![tactic(auto)]
+
 ghost use Rattle.std.specs.Prelude.{◌≡◌, ◌≤◌, length};
 ghost use Rattle.words.specs.Width.{Width};
 ghost use Rattle.model.specs.Shape.{shape, shortest};
@@ -16,7 +18,7 @@ use sound::is_sound;
 use words::word;
 
 // Why a call says no, in the order of its numbers in documents 01 and 02, 1 to 8.
-#[derive(Drop)]
+#[derive(Clone, Copy)]
 pub enum Refusal {
     BadLength,
     NotOpened,
@@ -29,7 +31,7 @@ pub enum Refusal {
 }
 
 // What every call but initialise finds first: a sound heap, or a reason to say no.
-#[derive(Drop)]
+#[derive(Clone, Copy)]
 pub enum Verdict {
     Fine,
     Unfit(Refusal),

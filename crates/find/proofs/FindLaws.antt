@@ -119,16 +119,16 @@ module _ {w : ℕ} {b : List ℕ} {p a : ℕ} (o : OnPage w b p a) (L : Layout) 
       go [] n s = absurd (omega (arith, per_page_bound on.width class))
       go (x ∷ ss) n s = e ∙ class_read on.width b (get_or L.lists class []) class class_few aligned (p + w) x ss s
 
-  in-slots : (f : Found) → in_slots (shape w) a class (p + w) there.slots ≡ f → find (shape w) a L ≡ behinds (stands on L h).pre f
+  in_slots_lem : (f : Found) → in_slots (shape w) a class (p + w) there.slots ≡ f → find (shape w) a L ≡ behinds (stands on L h).pre f
   unfolding class
-  in-slots f e =
+  in_slots_lem f e =
       found_rest on L h (used (page there.class there.spare there.slots) ∷ there.after) there.rest
       ∙ ap (λ (g : Found). behinds (stands on L h).pre g)
       (find_page (shape w) (shape_good on.width) a p there.class there.spare there.slots there.after (omega (arith, on.reach, there.size)) ∙ e)
 
   pub page_low : a < p + 2 * w → Finds w L a Nothing
   unfolding Finds
-  page_low l = in-slots nothing (slots_below (shape w) (shape_good on.width) a class (p + w) there.slots (omega arith))
+  page_low l = in_slots_lem nothing (slots_below (shape w) (shape_good on.width) a class (p + w) there.slots (omega arith))
 
   -- f is the first header, c the class that it says, s the items' size and n their number, as code works them out
   module _ (f c s n d : ℕ) (ef : f ≡ word_at w b (first_item_at (shape w) p)) (ec : c ≡ class_in (shape w) f) (es : s ≡ item_size (shape w) c) (en : n ≡ (shape w).per_page c) (from : p + 2 * w ≤ a) (ed : d ≡ a - (p + 2 * w)) where
@@ -148,11 +148,11 @@ module _ {w : ℕ} {b : List ℕ} {p a : ℕ} (o : OnPage w b p a) (L : Layout) 
     pub page_uneven : (d % s ≡ 0 → ⊥) → Finds w L a Nothing
     unfolding Finds
     page_uneven z =
-        in-slots nothing (slots_none on.width a class (p + w) there.slots (λ i l e. z (ap (λ (x : ℕ). x % s) (sym (whole i e)) ∙ mul-mod_left i s)))
+        in_slots_lem nothing (slots_none on.width a class (p + w) there.slots (λ i l e. z (ap (λ (x : ℕ). x % s) (sym (whole i e)) ∙ mul-mod_left i s)))
 
     pub page_over : n ≤ d / s → Finds w L a Nothing
     unfolding Finds
-    page_over z = in-slots nothing (slots_none on.width a class (p + w) there.slots (λ i l e. omega (arith, count_same, quotient i e)))
+    page_over z = in_slots_lem nothing (slots_none on.width a class (p + w) there.slots (λ i l e. omega (arith, count_same, quotient i e)))
       where
         quotient : (i : ℕ) → a ≡ p + w + i * item_size (shape w) class + w → d / s ≡ i
         quotient i e = ap (λ (x : ℕ). x / s) (sym (whole i e)) ∙ mul-div_cancel i (omega (arith, size_same))
@@ -169,12 +169,12 @@ module _ {w : ℕ} {b : List ℕ} {p a : ℕ} (o : OnPage w b p a) (L : Layout) 
 
       pub page_idle : (flags_in x ≡ held_flags → ⊥) → Finds w L a Nothing
       unfolding Finds
-      page_idle z = in-slots nothing (read.not_in_use (λ e. z (ap flags_in ew ∙ e)))
+      page_idle z = in_slots_lem nothing (read.not_in_use (λ e. z (ap flags_in ew ∙ e)))
 
       pub page_held : flags_in x ≡ held_flags → (n : ℕ) → n ≡ asked_in x → Finds w L a (Item q c n)
       unfolding Finds
       page_held z n en =
-          (omega (arith, start_low, eq), in-slots (thing (offset_of (shape w) (a - w)) class (asked_in (word_at w b (a - w)))) (read.in_use (ap flags_in (sym ew) ∙ z)) ∙ rw (eq, class_same, en, ew) refl)
+          (omega (arith, start_low, eq), in_slots_lem (thing (offset_of (shape w) (a - w)) class (asked_in (word_at w b (a - w)))) (read.in_use (ap flags_in (sym ew) ∙ z)) ∙ rw (eq, class_same, en, ew) refl)
         where
           start_low : (start (shape w)) ≤ p
           start_low = omega (arith, (stands on L h).begins, le_ends (shape w) (start (shape w)) (stands on L h).pre)

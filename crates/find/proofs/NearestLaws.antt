@@ -1,8 +1,8 @@
 -- The last free block below an address, found along the list of the free ones.
-use Prim.Native.Nat.{ℕ, ◌+◌, ◌*◌, ◌/◌, ◌≤◌, ◌<◌}
+use Prim.Native.Nat.{ℕ, ◌+◌, ◌*◌, ◌≤◌, ◌<◌}
 use mathlib.Core.Path.{◌≡◌, refl, sym, ap, subst, ◌∙◌}
-use mathlib.Core.Logic.{◌⊎◌, inl, inr, ⊎_elim}
-use mathlib.Core.Bool.{Bool, true, false, cond}
+use mathlib.Core.Logic.{◌⊎◌, ⊎_elim}
+use mathlib.Core.Bool.{Bool, false}
 use mathlib.Core.List.{List, [], ◌∷◌, ◌++◌, append_assoc}
 use native.Mathlib.Omega.{arith}
 use native.Mathlib.Decide.{ℕ_discrete}
@@ -15,7 +15,7 @@ use Rattle.model.specs.Shape.{shape, start, end_of}
 use Rattle.model.specs.Parts.{size_in, first_free_at, next_at}
 use Rattle.model.specs.Picture.{Shows}
 use Rattle.model.specs.Layout.{Use, Block, free, used, Layout, if_free, size_of, ends, first_free, own}
-use Rattle.model.specs.Sound.{Here, Sound}
+use Rattle.model.specs.Sound.{Here}
 use Rattle.model.specs.inner.Walks.{flag, last_free, ends_free, Standing, Passed}
 use Rattle.model.proofs.blocks.Blocks.{ends_append, le_ends, last_append}
 use Rattle.model.proofs.blocks.FreeWalk.{left, first_read, here_room}

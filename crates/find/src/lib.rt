@@ -1,4 +1,6 @@
 // What is live at an address: found by a walk over blocks, from the last free one below it on, so that no payload and no stale word can pass for a tag.
+#![tactic(auto)]
+
 ghost use Rattle.std.specs.Prelude.{◌≡◌, ◌+◌, ◌<◌, ◌≤◌, length};
 ghost use Rattle.words.specs.Width.{Width};
 ghost use Rattle.model.specs.Shape.{shape};
@@ -14,7 +16,7 @@ use model::{
 use words::word;
 
 // A block in use: where it stands, its size, the last free block before it (0: none), and whether that touches it.
-#[derive(Drop)]
+#[derive(Clone, Copy)]
 pub struct UsedBlock {
     pub at: Position,
     pub size: usize,
@@ -23,7 +25,7 @@ pub struct UsedBlock {
 }
 
 // What is live at an address: an item, by its header's position, its class and the size that was asked for (0: not known); a variable block; or nothing.
-#[derive(Drop)]
+#[derive(Clone, Copy)]
 pub enum Live {
     Nothing,
     Item(Position, usize, usize),

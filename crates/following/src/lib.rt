@@ -1,4 +1,6 @@
 // The count along one item list.
+#![tactic(auto)]
+
 ghost use Rattle.std.specs.Prelude.{◌<◌, length};
 ghost use Rattle.words.specs.Width.{Width};
 ghost use Rattle.words.specs.Word.{word_at};

@@ -1,4 +1,6 @@
 // A fresh heap: the fixed words, no item on any list, and one free block from the data area's start to the end.
+#![tactic(auto)]
+
 ghost use Rattle.std.specs.Prelude.{◌≡◌, ◌≤◌, length, replicate, []};
 ghost use Rattle.words.specs.Width.{Width};
 ghost use Rattle.words.specs.Word.{put};

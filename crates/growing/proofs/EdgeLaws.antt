@@ -25,10 +25,10 @@ use Rattle.growing.specs.Growing.{Whole, EdgeAt, FreeBefore}
 
 module _ {w : ℕ} (wd : Width w) where
   -- the far tag of a block in use is not a free one's
-  use-tagged : (ls : List (List ℕ)) (b : List ℕ) (p : ℕ) (u : Use) → AllowedUse (shape w) u → Shows w b (use_words (shape w) ls p u) → kind_in (word_at w b (far_tag_at (shape w) p (use_size (shape w) u))) ≡ free_kind → ⊥
+  use_tagged : (ls : List (List ℕ)) (b : List ℕ) (p : ℕ) (u : Use) → AllowedUse (shape w) u → Shows w b (use_words (shape w) ls p u) → kind_in (word_at w b (far_tag_at (shape w) p (use_size (shape w) u))) ≡ free_kind → ⊥
   unfolding use_words use_size AllowedUse Shows
-  use-tagged ls b p (variable s) a h k = omega (arith, h.1.0, a.1, k)
-  use-tagged ls b p (page c j ss) a h k =
+  use_tagged ls b p (variable s) a h k = omega (arith, h.1.0, a.1, k)
+  use_tagged ls b p (page c j ss) a h k =
       let far = (shows_right w b (slot_words (shape w) c (get_or ls c []) (first_item_at (shape w) p) ss) _ h.1).0 in
       let size : use_size (shape w) (page c j ss) % 8 ≡ 0 = rw a.1 (omega (arith, (shape_good wd).pages c, a.3)) in
       omega (arith, far, size, k)
@@ -42,7 +42,7 @@ module _ {w : ℕ} (wd : Width w) where
       last_tagged ls b (p + s) p next 1 bs (λ z. absurd (omega (arith, z))) a.1 (shows_right w b (own (shape w) ls p prev (first_free (shape w) (p + s) bs next) (free s)) (block_words (shape w) ls (p + s) p next bs) h) e
   last_tagged ls b p prev next d (used u ∷ bs) f a h e =
       let q = p + use_size (shape w) u in
-      last_tagged ls b q prev next 0 bs (λ z. use-tagged ls b p u a.0 (shows_left w b (use_words (shape w) ls p u) (block_words (shape w) ls q prev next bs) h)) a.1
+      last_tagged ls b q prev next 0 bs (λ z. use_tagged ls b p u a.0 (shows_left w b (use_words (shape w) ls p u) (block_words (shape w) ls q prev next bs) h)) a.1
       (shows_right w b (use_words (shape w) ls p u) (block_words (shape w) ls q prev next bs) h) e
 
   -- blocks with no free one among them have none before or behind

@@ -133,7 +133,7 @@ module _ {w : ℕ} (b : List ℕ) (x : Holding w b) (n : ℕ) (asked : Asked w n
       -- THE LAW: the new block and the end, written, are the longer heap's picture, drawn
       grown_bytes_lem : Bytes b → allocate (shape w) n L ≡ none → to ≡ end_in (shape w) G → extended_bytes w (take to b) p (last_free (shape w) (start (shape w)) pre 0) ≡ drawn (shape w) G (take to b)
       unfolding linked_bytes free_words block_words own first_free
-      grown_bytes_lem bytes None-found at =
+      grown_bytes_lem bytes none_found at =
           let need = wanted (shape w) n in
           let y = at_end wd n asked.some_byte e L was in
           let long : length (take to b) ≡ to = length-take-le to b room in

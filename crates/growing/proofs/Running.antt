@@ -191,19 +191,19 @@ module _ {w : ℕ} (b : List ℕ) (x : Holding w b) (n : ℕ) (asked : Asked w n
         go z (grown f l) = same ∙ ap (λ (y : Outcome). in_buffer b y) here
 
   -- for the heap that is there
-  module _ (end : ℕ) (c : List ℕ) (g : Grown w b n end c) (nz : end ≡ 0 → ⊥) (None-found : Full w b n) where
+  module _ (end : ℕ) (c : List ℕ) (g : Grown w b n end c) (nz : end ≡ 0 → ⊥) (none_found : Full w b n) where
     abbrev K : Layout
     K = x.sound.layout
 
     then_ready : Ready w (take (end - 0) c)
-    then_ready = grown_ready end c g nz K x.sound.here (None-found K x.sound.here)
+    then_ready = grown_ready end c g nz K x.sound.here (none_found K x.sound.here)
 
     then_within : end ≤ length c
-    then_within = grown_within end c g nz K x.sound.here (None-found K x.sound.here)
+    then_within = grown_within end c g nz K x.sound.here (none_found K x.sound.here)
 
     -- it ends behind where it did, and within the buffer
     pub then_further : (stored_end (shape w) b < end) × (end ≤ length c)
-    then_further = (omega (arith, end_is end c g nz K x.sound.here (None-found K x.sound.here), further b x n asked K x.sound.here (None-found K x.sound.here)), then_within)
+    then_further = (omega (arith, end_is end c g nz K x.sound.here (none_found K x.sound.here), further b x n asked K x.sound.here (none_found K x.sound.here)), then_within)
 
     -- there the n bytes find room
     finds_room : allocate (shape w) n (longer (shape w) n K) ≡ none → ⊥

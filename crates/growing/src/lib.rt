@@ -1,4 +1,6 @@
 // A heap that grows: where an allocation finds nothing, a free block of exactly its need is written at the heap's end, and then the ordinary rule runs.
+#![tactic(auto)]
+
 ghost use Rattle.std.specs.Prelude.{◌≡◌, ◌≤◌, length};
 ghost use Rattle.words.specs.Width.{Width};
 ghost use Rattle.model.specs.Shape.{shape};

@@ -1,11 +1,13 @@
 // The hand unit's heap: every call, with words of 4 bytes. What a call does is written once, over the word size, in the crates `serving` and `trying`.
+#![tactic(auto)]
+
 ghost use Rattle.std.specs.Prelude.{◌≡◌, length};
 ghost use Rattle.model.specs.Shape.{hand, start, end_of};
 ghost use Rattle.model.specs.Calls.{Initialises, Checks, Allocates, Frees, ResizesInPlace, Moves, Keeps, Resizes, Sweeps, Steps, Counts};
 ghost use Rattle.examining.specs.Examined.{Examined};
 ghost use Rattle.serving.specs.Answers.{outcome, swept_outcome};
 ghost use Rattle.serving.specs.Counting.{told_counted, TableTold};
-ghost use Rattle.serving.specs.Lookup.{Part, RefusalTold};
+ghost use Rattle.serving.specs.Lookup.{Part, PartMut, RefusalTold};
 ghost use Rattle.serving.specs.Walking.{told_step};
 
 pub use examining::{Refusal, Verdict, refusal_number};
@@ -13,7 +15,7 @@ use model::{Address, HAND, MOST_CLASSES, end_of};
 pub use serving::Answer;
 pub use serving::counting::Counted;
 pub use serving::recovery::Swept;
-pub use serving::walking::{Step, Walk};
+pub use serving::walks::{Step, Walk};
 
 // Opens a heap in a buffer that holds none yet. It ends with its buffer.
 pub fn initialise(h: &mut [u8]) -> Answer
@@ -94,7 +96,7 @@ pub fn look_up(h: &[u8], a: Address) -> &[u8]
 
 // The same part, lent for writing.
 pub fn look_up_mut(h: &mut [u8], a: Address) -> &mut [u8]
-    ensures { Part hand.word h.entry a.0 result }
+    ensures { PartMut hand.word h.entry a.0 result }
 {
     serving::lookup::look_up_mut(HAND, h, a)
 }

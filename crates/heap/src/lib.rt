@@ -1,11 +1,13 @@
 // Document 01's heap: every call, with words of 8 bytes. What a call does is written once, over the word size, in the crates `serving` and `trying`.
+#![tactic(auto)]
+
 ghost use Rattle.std.specs.Prelude.{◌≡◌};
 ghost use Rattle.model.specs.Shape.{wide, start};
 ghost use Rattle.model.specs.Calls.{Initialises, Checks, Allocates, Frees, ResizesInPlace, Moves, Keeps, Resizes, Sweeps, Steps, Counts};
 ghost use Rattle.examining.specs.Examined.{Examined};
 ghost use Rattle.serving.specs.Answers.{outcome, swept_outcome};
 ghost use Rattle.serving.specs.Counting.{told_counted, TableTold};
-ghost use Rattle.serving.specs.Lookup.{Part, RefusalTold};
+ghost use Rattle.serving.specs.Lookup.{Part, PartMut, RefusalTold};
 ghost use Rattle.serving.specs.Walking.{told_step};
 
 pub use examining::{Refusal, Verdict, refusal_number};
@@ -13,7 +15,7 @@ use model::{Address, MOST_CLASSES, Position, WIDE};
 pub use serving::Answer;
 pub use serving::counting::Counted;
 pub use serving::recovery::Swept;
-pub use serving::walking::{Step, Walk};
+pub use serving::walks::{Step, Walk};
 
 // Opens a heap that ends at `end`, in a buffer that holds none yet.
 pub fn initialise(h: &mut [u8], end: Position) -> Answer
@@ -94,7 +96,7 @@ pub fn look_up(h: &[u8], a: Address) -> &[u8]
 
 // The same part, lent for writing.
 pub fn look_up_mut(h: &mut [u8], a: Address) -> &mut [u8]
-    ensures { Part wide.word h.entry a.0 result }
+    ensures { PartMut wide.word h.entry a.0 result }
 {
     serving::lookup::look_up_mut(WIDE, h, a)
 }

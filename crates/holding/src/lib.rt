@@ -1,4 +1,6 @@
 // What a live address holds, and how much of it is shown.
+#![tactic(auto)]
+
 ghost use Rattle.words.specs.Width.{Width};
 ghost use Rattle.model.specs.Shape.{shape};
 ghost use Rattle.model.specs.Sound.{Sound};

@@ -1,4 +1,6 @@
 // Items: the first of a class's list is taken, an item goes to the head of its list, and one in use is for another size from now on.
+#![tactic(auto)]
+
 ghost use Rattle.std.specs.Prelude.{◌≡◌};
 ghost use Rattle.model.specs.Shape.{class_of};
 ghost use Rattle.items.specs.Items.{HasItem, TookItem, ItemIn, GaveItem, ItemLive, RenewedItem};

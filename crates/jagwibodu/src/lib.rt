@@ -1,4 +1,6 @@
 // The calls for the console's C host: numbers and a byte slice in, refusal × 2^32 + address out.
+#![tactic(auto)]
+
 ghost use Rattle.model.specs.Shape.{wide};
 ghost use Rattle.model.specs.Calls.{Initialises, Checks, Allocates, Frees, ResizesInPlace, Moves, Resizes, Sweeps};
 ghost use Rattle.numbering.specs.Numbers.{Numbered};

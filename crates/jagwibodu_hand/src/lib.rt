@@ -1,4 +1,6 @@
 // The calls for the hand unit's C host: numbers and a byte slice in, refusal × 2^32 + address out.
+#![tactic(auto)]
+
 ghost use Rattle.std.specs.Prelude.{length};
 ghost use Rattle.model.specs.Shape.{hand, end_of};
 ghost use Rattle.model.specs.Calls.{Initialises, Checks, Allocates, Frees, ResizesInPlace, Moves, Resizes, Sweeps};

@@ -1,104 +1,79 @@
-// The call-list program: it reads records from standard input, plays each on one heap, and prints a line for each.
+// The call-list program: it reads records, plays each on one heap, and writes a line for each.
+#![tactic(auto)]
+
+use filling::fill;
 use records::{Line, body_length, play};
+use std::io;
+use std::io::{Input, Read, Write};
 
-// Whether to go on, and how much of the buffer is the heap then.
+// What the list has next: a record; its end; or an unknown kind or a short body, at which the program stops.
 #[derive(Drop)]
-struct After {
-    more: bool,
-    lent: usize,
+enum Next {
+    Record { kind: u8, body: [u8; 8] },
+    End,
+    Stop,
 }
 
-// A number, after a space.
-fn print_next(n: u64) {
-    io::write_all(1, b" ");
-    io::print_decimal(1, n);
-}
+// The kind whose line has six numbers.
+const STATISTICS: u8 = 4;
 
-// The six statistics.
-fn print_six(numbers: [u64; 6]) {
-    print_next(numbers[0]);
-    print_next(numbers[1]);
-    print_next(numbers[2]);
-    print_next(numbers[3]);
-    print_next(numbers[4]);
-    print_next(numbers[5]);
-}
+// The bytes that stand for a heap before one is opened.
+const ROOM: usize = 65536;
 
-// A line: record number, refusal number, address; for kind 4, the six statistics instead of the address.
-fn print_line(n: u64, kind: u8, l: Line) {
-    io::print_decimal(1, n);
-    print_next(l.refusal);
-    let numbers = l.numbers;
-    if kind == 4 {
-        print_six(numbers);
-    } else {
-        print_next(numbers[0]);
-    }
-    io::write_all(1, b"\n");
-}
-
-// An unknown kind or a short body prints "stop" and ends.
-fn stop(lent: usize) -> After {
-    io::write_all(1, b"stop\n");
-    After {
-        more: false,
-        lent: lent,
-    }
-}
-
-// Reads the body that a record of this kind has, and says whether all of it was there; of an unknown kind it never is.
-fn read_body(kind: u8, body: &mut [u8]) -> bool {
+// Reads the body of a record of this kind.
+fn read_body<R: Read>(input: &mut R, kind: u8) -> io::Result<Next> {
+    let mut body = [0u8; 8];
     let length = body_length(kind);
     if body.len() < length {
-        return false;
+        return Ok(Next::Stop);
     }
-    let got = io::read_full(0, &mut body[0..length]);
-    got == length
-}
-
-// Reads and plays record number n of this kind.
-fn turn_of(h: &mut [u8], lent: usize, n: u64, kind: u8) -> After {
-    let mut body = [0u8; 8];
-    let whole = read_body(kind, &mut body);
-    if !whole {
-        return stop(lent);
-    }
-    let p = play(h, lent, kind, &body);
-    print_line(n, kind, p.line);
-    After {
-        more: true,
-        lent: p.lent,
+    if fill(input, &mut body[..length])? {
+        Ok(Next::Record { kind, body })
+    } else {
+        Ok(Next::Stop)
     }
 }
 
-// Reads and plays record number n, where the input has one more.
-fn turn(h: &mut [u8], lent: usize, n: u64) -> After {
+// Reads what the list has next.
+fn read_next<R: Read>(input: &mut R) -> io::Result<Next> {
     let mut kind = [0u8; 1];
-    let got = io::read_full(0, &mut kind);
-    if got == 0 {
-        return After {
-            more: false,
-            lent: lent,
-        };
+    if fill(input, &mut kind)? {
+        read_body(input, kind[0])
+    } else {
+        Ok(Next::End)
     }
-    turn_of(h, lent, n, kind[0])
 }
 
-// Every record in turn. A proved loop has to end: it counts the records, to a number that no list reaches.
-fn play_all(h: &mut [u8]) {
+// A line: record number, refusal number, address; for statistics, the six numbers instead of the address.
+fn write_line<W: Write>(out: &mut W, n: u64, kind: u8, line: Line) -> io::Result<()> {
+    let refusal = line.refusal;
+    let [a, b, c, d, e, f] = line.numbers;
+    if kind == STATISTICS {
+        writeln!(out, "{n} {refusal} {a} {b} {c} {d} {e} {f}")
+    } else {
+        writeln!(out, "{n} {refusal} {a}")
+    }
+}
+
+// Plays every record in turn, on a heap that is the whole buffer until a kind 0 is granted. A proved loop has to end: it counts the records, to a number that no list reaches.
+fn play_all<R: Read, W: Write>(input: &mut R, out: &mut W, h: &mut [u8]) -> io::Result<()> {
     let mut lent = h.len();
-    let mut n: u64 = 0;
-    let mut more = true;
-    while n < u64::MAX && more {
-        let t = turn(h, lent, n);
-        lent = t.lent;
-        more = t.more;
-        n += 1;
+    for n in 0..u64::MAX {
+        match read_next(input)? {
+            Next::Record { kind, body } => {
+                let played = play(h, lent, kind, &body);
+                lent = played.lent;
+                write_line(out, n, kind, played.line)?;
+            }
+            Next::End => return Ok(()),
+            Next::Stop => return writeln!(out, "stop"),
+        }
     }
+    Ok(())
 }
 
-// The whole list, on a heap of 65,536 zero bytes until a kind 0 is granted.
-pub fn run() {
-    let mut h = io::large_buffer();
-    play_all(&mut h);
+// Plays the list of standard input, on zero bytes.
+pub fn run(rt: &(impl Input + Print)) -> io::Result<()> {
+    let mut h = [0u8; ROOM];
+    play_all(&mut rt.reader(), &mut io::writer(rt), &mut h)
 }

@@ -1,4 +1,8 @@
 // The call-list program, on a long list that the second program wrote, with what it must print.
-fn main() {
-    listing::run();
+#![tactic(auto)]
+
+use std::io;
+
+fn main(rt: HostRuntime) -> io::Result<()> {
+    listing::run(&rt)
 }

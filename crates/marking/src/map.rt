@@ -6,7 +6,7 @@ ghost use Rattle.marking.specs.Maps.{offset_bit, at_bit, map_end};
 use model::{ItemOffset, Position, item_at};
 
 // How many marks there are, or that the heap is not sound.
-#[derive(Drop)]
+#[derive(Clone, Copy)]
 pub enum Marks {
     Unsound,
     Count(usize),

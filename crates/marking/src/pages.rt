@@ -13,7 +13,7 @@ use std::num::{wrapping_add_u32, wrapping_sub_usize};
 use words::{bits, word};
 
 // What the items of a page come to: the marks that there are then; how those marked differ from a free one's header in class and flags, and those in use from the header for the least size of their class, all differences or-ed.
-#[derive(Drop)]
+#[derive(Clone, Copy)]
 struct Tally {
     pub marks: usize,
     pub wrong: usize,

@@ -1,5 +1,5 @@
 -- The live payloads of a layout: those of variable blocks and of items in use, and no others.
-use Rattle.std.specs.Prelude.{ℕ, ◌+◌, ◌-◌, ◌≡◌, ◌⊎◌, List, [], ◌∷◌, ◌++◌, take, drop}
+use Rattle.std.specs.Prelude.{ℕ, ◌+◌, ◌≡◌, ◌⊎◌, List, [], ◌∷◌, ◌++◌, take, drop}
 use Rattle.model.specs.Shape.{Shape, start, item_size, item_capacity, item_shown, block_capacity, address_of}
 use Rattle.model.specs.Parts.{first_item_at}
 use Rattle.model.specs.Layout.{Slot, idle, held, Use, variable, page, Block, free, used, Layout, use_size}

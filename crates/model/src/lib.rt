@@ -1,5 +1,7 @@
 // A heap of words of w bytes in code, document 01's at 8 and the hand unit's at 4: the three ways of counting a place, and each part of a heap by name.
 // What follows from w is folded away where a program gives it as a constant.
+#![tactic(auto)]
+
 ghost use Rattle.std.specs.Prelude.{◌≡◌, true, ◌+◌, ◌*◌, ◌≤◌, ◌<◌, ◌^◌};
 ghost use Rattle.words.specs.Width.{Width};
 ghost use Rattle.model.specs.Shape.{shape, end_of, class_of, need_of, index, start, tags, least_free, shortest, least_variable, largest_item, item_size, item_capacity, item_shown, block_capacity, page_need, address_of, position_of, offset_of, item_at};
@@ -8,13 +10,13 @@ ghost use Rattle.model.specs.inner.Pages.{least_page};
 ghost use Rattle.model.specs.Parts.{tag_of, size_in, kind_in, free_header, held_header, flags_in, used_in, asked_in, free_mark, class_and_flags, class_in, next_in, data_at, index_at, first_free_at, end_at, index_tag, index_tag_at, index_far_tag_at, head_at, far_tag_at, next_at, previous_at, first_item_at};
 
 // A place counted in bytes from the start of the buffer.
-#[derive(Drop)]
+#[derive(Clone, Copy)]
 pub struct Position(pub usize);
 // The position of a payload's first byte.
-#[derive(Drop)]
+#[derive(Clone, Copy)]
 pub struct Address(pub usize);
 // A place counted in bytes from the index page.
-#[derive(Drop)]
+#[derive(Clone, Copy)]
 pub struct ItemOffset(pub usize);
 
 // What a block is, as its tag says.

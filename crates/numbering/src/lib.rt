@@ -1,5 +1,7 @@
 // The calls for a C host, over the word size: numbers and a byte slice in, refusal × 2^32 + address out.
 // The crates `jagwibodu` and `jagwibodu_hand` give the word size, and the calls their names in C.
+#![tactic(auto)]
+
 ghost use Rattle.std.specs.Prelude.{◌≡◌, [], ◌*◌, ◌^◌};
 ghost use Rattle.words.specs.Width.{Width};
 ghost use Rattle.model.specs.Shape.{shape};

@@ -1,11 +1,11 @@
 -- The items of a new page, linked one after the other.
-use Prim.Native.Nat.{ℕ, zero, suc, ◌+◌, ◌-◌, ◌*◌, ◌^◌, ◌<◌, ◌≤◌}
-use mathlib.Core.Path.{◌≡◌, refl, sym, ap, ◌∙◌}
-use mathlib.Core.List.{List, [], ◌∷◌}
+use Prim.Native.Nat.{ℕ, zero, suc, ◌+◌, ◌-◌, ◌*◌, ◌<◌, ◌≤◌}
+use mathlib.Core.Path.{◌≡◌, refl, sym, ap, subst, ◌∙◌}
+use mathlib.Core.List.{List}
 use native.Mathlib.Omega.{arith}
 use lib.ListN.{length, get_or}
 use Rattle.words.specs.Width.{Width}
-use Rattle.words.specs.Word.{word_at, put, Bytes}
+use Rattle.words.specs.Word.{put, Bytes}
 use Rattle.words.proofs.WordLaws.{length_put, put_out, word_same, bytes_put}
 use Rattle.model.specs.Shape.{shape, item_size, offset_of, index}
 use Rattle.model.specs.Parts.{free_header, free_mark}
@@ -130,10 +130,10 @@ module _ {w : ℕ} {h₀ : List ℕ} {c p size step n : ℕ} {h : List ℕ} {hea
             all = omega (arith, f, i.all);
             room = omega (arith, i.room);
             header_is = rw (i.header_is, i.step_is) (rw apart at (header_before w c p size (left - size) i.low));
-            shown = rw (g, e') (
+            shown = subst (λ (x : List ℕ). Shows w x (item_words (shape w) c (p + (left - size)) (suc (suc i.after)))) (sym e') (rw g (
               word_same w h (p + (left - size)) header (omega (arith, link_room)) (omega (arith, i.header_is, i.class, words_fit i.width (offset_of (shape w) (p + left)) (omega (arith, i.room, i.short)))) ∙ i.header_is,
               shows_put w h (p + left) (item_words (shape w) c (p + left) (suc i.after)) (length h) (p + (left - size)) header (rise_items i.width c (p + left) (suc i.after) (length h) (omega (arith, i.room, i.same))) (λ x y. omega (arith, g)) i.shown,
-            );
+            ));
             others = λ j o. rw e' (put_out w h (p + (left - size)) header j o.0 ∙ i.others j (rw g at o.1));
           }
 

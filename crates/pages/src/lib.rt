@@ -1,4 +1,6 @@
 // Pages of items.
+#![tactic(auto)]
+
 ghost use Rattle.std.specs.Prelude.{◌≡◌, length};
 ghost use Rattle.model.specs.Shape.{shape, page_need};
 ghost use Rattle.model.specs.Picture.{draw};

@@ -1,4 +1,6 @@
 // A block in use is made of the low end of a free block, or of the whole of it.
+#![tactic(auto)]
+
 ghost use Rattle.std.specs.Prelude.{◌≡◌, ◌+◌, ◌<◌, ◌^◌, length};
 ghost use Rattle.words.specs.Width.{Width};
 ghost use Rattle.model.specs.Shape.{shape, least_free};
@@ -12,7 +14,7 @@ use model::{Position, VARIABLE, far_tag_at, least_free, next_at, previous_at, ta
 use words::{put_word, word};
 
 // A free block: where it begins, its size, the free blocks behind and before it, and where the links to it from there stand.
-#[derive(Drop)]
+#[derive(Clone, Copy)]
 pub struct Gap {
     pub at: Position,
     pub size: usize,

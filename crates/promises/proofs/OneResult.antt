@@ -5,7 +5,6 @@ use mathlib.Core.Bool.{cond}
 use mathlib.Core.List.{List}
 use native.Mathlib.Omega.{arith}
 use native.Mathlib.Decide.{ℕ_discrete}
-use denote.Ref.{Bor}
 use lib.ListN.{length}
 use lib.Dec.{eqb}
 use Rattle.model.specs.Shape.{shape}
@@ -27,12 +26,12 @@ use Rattle.serving.specs.declared.recovery.Swept.TheVariants as swept
 use Rattle.examining.specs.declared.Verdict.{Verdict}
 use Rattle.examining.specs.declared.Verdict.TheVariants.{Fine, Unfit}
 use Rattle.serving.specs.declared.counting.Counted.{Counted}
-use Rattle.serving.specs.declared.walking.Step.{Step}
+use Rattle.serving.specs.declared.walks.Step.{Step}
 use Rattle.examining.specs.Examined.{refusal_number, UnfitFor, Examined}
 use Rattle.serving.specs.Answers.{outcome, swept_outcome}
 use Rattle.serving.specs.Counting.{told_counted}
 use Rattle.serving.specs.Walking.{told_step}
-use Rattle.serving.specs.Lookup.{Part}
+use Rattle.serving.specs.Lookup.{PartAt}
 use Rattle.promises.specs.Answered.{OneResult}
 use Rattle.promises.proofs.Stable.{numbers, lists, tolds, steps, statistics}
 use Rattle.promises.proofs.Determined.{checked_one, determined}
@@ -178,15 +177,20 @@ module _ (w : ℕ) where
   verdict_one b (Unfit k) (Unfit j) x y = ap (λ (z : Refusal). Unfit z) (unfit_one b k j x y)
 
   -- two parts of one heap with the same bytes begin at one place
-  part_one : (h : Bor (List ℕ)) (a : ℕ) (r r' : Bor (List ℕ)) → Part w h a r → Part w h a r' → r.now ≡ r'.now → r.ref_ptr.1 ≡ r'.ref_ptr.1
-  part_one h a r r' p q e = go (ℕ_discrete (length r.now) 0)
+  part_one : (h : ℕ × ℕ) (b : List ℕ) (a : ℕ) (i j : ℕ × ℕ) (l m : List ℕ) → PartAt w h b a i l → PartAt w h b a j m → l ≡ m → i.1 ≡ j.1
+  part_one h b a i j l m p q e = go (ℕ_discrete (length l) 0)
     where
-      long : length r.now ≡ length r'.now
+      long : length l ≡ length m
       long = ap length e
 
-      go : Dec (length r.now ≡ 0) → r.ref_ptr.1 ≡ r'.ref_ptr.1
+      go : Dec (length l ≡ 0) → i.1 ≡ j.1
       go (yes z) = p.empty z ∙ sym (q.empty (sym long ∙ z))
       go (no z) = p.place (omega (arith, z)) ∙ sym (q.place (omega (arith, z, long)))
+
+  parts_one : (h : ℕ × ℕ) (b : List ℕ) (a : ℕ) (i j : ℕ × ℕ) (l m : List ℕ) → PartAt w h b a i l → PartAt w h b a j m → (l ≡ m) × (i ≡ j)
+  parts_one h b a i j l m x y =
+      let e : l ≡ m = checked_one (shape w) b (lists numbers) _ _ l m x.bytes y.bytes in
+      (e, ap₂ (λ (k n : ℕ). (k, n)) (x.same ∙ sym y.same) (part_one h b a i j l m x y e))
 
   pub one_result : OneResult w
   unfolding Comes
@@ -198,9 +202,8 @@ module _ (w : ℕ) where
         numbers = λ b q n n' c c' x y.
             let e : x.outcome ≡ y.outcome = determined (shape w) b q x.outcome y.outcome x.allowed y.allowed in
             (x.number ∙ ap number e ∙ sym y.number, x.heap ∙ ap (λ (o : Outcome). o.heap) e ∙ sym y.heap);
-        look_ups = λ h a r r' x y.
-            let e : r.now ≡ r'.now = checked_one (shape w) h.now (lists numbers) _ _ r.now r'.now x.bytes y.bytes in
-            (e, ap₂ (λ (i j : ℕ). (i, j)) (x.same ∙ sym y.same) (part_one h a r r' x y e));
+        look_ups = λ h a r r' x y. parts_one h.ref_ptr h.now a r.ref_ptr r'.ref_ptr r.now r'.now x y;
+        look_ups_mut = λ h a r r' x y. parts_one h.ref_ptr h.now a r.ref_ptr r'.ref_ptr r.now r'.now x y;
         look_up_refusals = λ b a k k' x y. checked_one (shape w) b numbers _ _ k k' x y;
         statistics = λ b r r' x y. ap counted_back (checked_one (shape w) b (tolds statistics) _ _ (told_counted r) (told_counted r') x y);
         tables = λ b t t' x y. checked_one (shape w) b (lists (lists numbers)) _ _ t t' x y;

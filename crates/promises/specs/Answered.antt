@@ -1,7 +1,7 @@
 -- The demands of what the public calls themselves answer, of document 01's heap (w = 8) and of the hand unit's (w = 4): the enum that they answer, through the definition of what it means; the C numbers; the reading calls.
 use Rattle.std.specs.Prelude.{ℕ, ◌≤◌, ◌≡◌, ◌↔◌, List, length, get_or}
 use Rattle.std.proofs.Math.Option.{none}
-use Rattle.std.specs.Borrow.{Bor}
+use Rattle.std.specs.Borrow.{Bor, MutBor}
 use Rattle.model.specs.Shape.{shape, end_of, address_of, item_at}
 use Rattle.model.specs.Layout.{Layout}
 use Rattle.model.specs.Sound.{stored_end, HereIn, SoundIn}
@@ -19,12 +19,12 @@ use Rattle.serving.specs.declared.recovery.Swept.{Swept}
 use Rattle.serving.specs.declared.recovery.Swept.TheVariants as swept
 use Rattle.examining.specs.declared.Verdict.{Verdict}
 use Rattle.serving.specs.declared.counting.Counted.{Counted}
-use Rattle.serving.specs.declared.walking.Step.{Step}
+use Rattle.serving.specs.declared.walks.Step.{Step}
 use Rattle.examining.specs.Examined.{Examined}
 use Rattle.serving.specs.Answers.{outcome, swept_outcome}
 use Rattle.serving.specs.Counting.{told_counted, TableTold}
 use Rattle.serving.specs.Walking.{told_step}
-use Rattle.serving.specs.Lookup.{Part, PartTold, RefusalTold}
+use Rattle.serving.specs.Lookup.{Part, PartMut, PartTold, RefusalTold}
 use Rattle.numbering.specs.Numbers.{Numbered}
 
 -- the calls that grant a record for n bytes: allocate, a resize in place, a move
@@ -55,6 +55,7 @@ module _ (w : ℕ) where
     pub verdicts : (b : List ℕ) (v v' : Verdict) → Examined w b v → Examined w b v' → v ≡ v'
     pub numbers : (b : List ℕ) (q : Call) (n n' : ℕ) (c c' : List ℕ) → Numbered (Comes (shape w) b q) n c → Numbered (Comes (shape w) b q) n' c' → (n ≡ n') × (c ≡ c')
     pub look_ups : (h : Bor (List ℕ)) (a : ℕ) (r r' : Bor (List ℕ)) → Part w h a r → Part w h a r' → (r.now ≡ r'.now) × (r.ref_ptr ≡ r'.ref_ptr)
+    pub look_ups_mut : (h : MutBor (List ℕ)) (a : ℕ) (r r' : MutBor (List ℕ)) → PartMut w h a r → PartMut w h a r' → (r.now ≡ r'.now) × (r.ref_ptr ≡ r'.ref_ptr)
     pub look_up_refusals : (b : List ℕ) (a k k' : ℕ) → RefusalTold w b a k → RefusalTold w b a k' → k ≡ k'
     pub statistics : (b : List ℕ) (r r' : Counted) → Counts (shape w) b (told_counted r) → Counts (shape w) b (told_counted r') → r ≡ r'
     pub tables : (b : List ℕ) (t t' : List (List ℕ)) → TableTold w b t → TableTold w b t' → t ≡ t'

@@ -16,7 +16,7 @@ use model::{
 use words::word;
 
 // What the blocks of a heap come to.
-#[derive(Drop)]
+#[derive(Clone, Copy)]
 pub struct Statistics {
     pub free_bytes: u64,
     pub free_blocks: u64,
@@ -27,7 +27,7 @@ pub struct Statistics {
 }
 
 // A page: its class, and how many of its items are in use and how many are free.
-#[derive(Drop)]
+#[derive(Clone, Copy)]
 pub struct Page {
     pub class: usize,
     pub held: u64,

@@ -13,7 +13,7 @@ use model::{
 use words::word;
 
 // What a block is: free, with its next and its previous free block; variable; a page, with its class; or there is none.
-#[derive(Drop)]
+#[derive(Clone, Copy)]
 pub enum Kind {
     Free { next: Position, previous: Position },
     Variable,
@@ -22,7 +22,7 @@ pub enum Kind {
 }
 
 // A walk's answer: where the block stands, its whole size, and what it is.
-#[derive(Drop)]
+#[derive(Clone, Copy)]
 pub struct MetBlock {
     pub position: Position,
     pub size: usize,

@@ -1,4 +1,6 @@
 // One record of a call list, played on a heap.
+#![tactic(auto)]
+
 ghost use Rattle.std.specs.Prelude.{◌≡◌, ◌≤◌, ◌<◌, length};
 ghost use Rattle.words.specs.Word.{word_at};
 ghost use Rattle.records.specs.Lines.{body_length, line_of, OpensIn, AllocatesIn, FreesIn, ResizesIn, CountsIn, no_line, clip, CallPlayed, Plays};
@@ -7,7 +9,7 @@ use heap::{Answer, Refusal, refusal_number};
 use model::{Address, end_of};
 
 // What a record prints behind its number: the refusal, and the address or the six statistics.
-#[derive(Drop)]
+#[derive(Clone, Copy)]
 pub struct Line {
     pub refusal: u64,
     pub numbers: [u64; 6],
@@ -77,7 +79,7 @@ pub fn count(h: &[u8], n: usize) -> Line
 }
 
 // A line, and how much of the buffer is the heap from then on.
-#[derive(Drop)]
+#[derive(Clone, Copy)]
 pub struct Played {
     pub line: Line,
     pub lent: usize,

@@ -1,4 +1,6 @@
 // A block in use is given back: it becomes free and joins a free neighbour on either side.
+#![tactic(auto)]
+
 ghost use Rattle.std.specs.Prelude.{◌≡◌, ◌+◌};
 ghost use Rattle.releasing.specs.Release.{LeftRoom, RightRoom, left_at, left_free, right_at, right_free, BlockIn, GivenBack};
 
@@ -8,7 +10,7 @@ use model::{Position, next_at, previous_at};
 use words::word;
 
 // Where a joined block begins or ends, and the free block beyond that (0: none).
-#[derive(Drop)]
+#[derive(Clone, Copy)]
 pub struct Edge {
     pub at: Position,
     pub free: Position,

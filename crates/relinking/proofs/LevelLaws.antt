@@ -1,5 +1,5 @@
 -- The pages of the table with k live items are pushed, from the last to the first.
-use Prim.Native.Nat.{ℕ, suc, ◌+◌, ◌-◌, ◌≤◌, ◌<◌}
+use Prim.Native.Nat.{ℕ, suc, ◌-◌, ◌≤◌, ◌<◌}
 use mathlib.Core.Path.{◌≡◌, sym, ap, subst, ◌∙◌}
 use mathlib.Core.List.{List, [], ◌++◌}
 use native.Mathlib.Omega.{arith}
@@ -41,14 +41,14 @@ table_length {w} {c} {L} {table} {m} g = sym (length_entries (pages w c L)) ∙ 
 
 -- what its entry with number j says
 module _ {w : ℕ} (wd : Width w) {b : List ℕ} {c : ℕ} {table : List ℕ} {m : ℕ} {L : Layout} (y : Laid w b L) (g : Gathered w c L table m) (j : ℕ) (l : j < m) where
-  in-leaves : j < length (pages w c L)
-  in-leaves = omega (arith, table_length g)
+  in_leaves : j < length (pages w c L)
+  in_leaves = omega (arith, table_length g)
 
   there : PageThere w L (nth w c L j).at c (nth w c L j).slots
-  there = leaf_there L c j in-leaves
+  there = leaf_there L c j in_leaves
 
   entry_is : get_or table j 0 ≡ entry_of (nth w c L j).at (held_in (nth w c L j).slots)
-  entry_is = sym (get_or-take m table j 0 l) ∙ ap (λ (l : List ℕ). get_or l j 0) g.are ∙ get_entries j (pages w c L) in-leaves
+  entry_is = sym (get_or-take m table j 0 l) ∙ ap (λ (l : List ℕ). get_or l j 0) g.are ∙ get_entries j (pages w c L) in_leaves
 
   small : held_in (nth w c L j).slots < live_room
   small = omega (arith, held_few (nth w c L j).slots, page_count wd y there, live_room_lem wd c)
@@ -113,14 +113,14 @@ module _ {w : ℕ} {b : List ℕ} {c : ℕ} {table : List ℕ} {m k : ℕ} {h : 
           let same : items ++ xs ≡ level_of (shape w) k c (drop j (pages w c L)) =
           ap (λ (a : ℕ). idle_slots (shape w) c (first_item_at (shape w) a) (nth w c L j).slots ++ xs) (ep ∙ page_is)
           ∙ ap (λ (o : ℕ). idle_slots (shape w) c (first_item_at (shape w) (nth w c L j).at) (nth w c L j).slots ++ level_of (shape w) k c (drop o (pages w c L))) ej
-          ∙ sym (level_this (shape w) k c j (pages w c L) (in-leaves v.heap.width y g j lj) (sym held_is ∙ sym en ∙ is)) in
+          ∙ sym (level_this (shape w) k c j (pages w c L) (in_leaves v.heap.width y g j lj) (sym held_is ∙ sym en ∙ is)) in
           subst (λ (l : List ℕ). Became w b (in_front c l L) d) same f
 
       pass_it : (n : ℕ) → n ≡ live_in e → (n ≡ k → ⊥) → Became w b (in_front c (level_of (shape w) k c (drop j (pages w c L))) L) h
       pass_it n en not =
           let same : level_of (shape w) k c (drop i (pages w c L)) ≡ level_of (shape w) k c (drop j (pages w c L)) =
           ap (λ (o : ℕ). level_of (shape w) k c (drop o (pages w c L))) ej
-          ∙ sym (level_other (shape w) k c j (pages w c L) (in-leaves v.heap.width y g j lj) (λ z. not (en ∙ held_is ∙ z))) in
+          ∙ sym (level_other (shape w) k c j (pages w c L) (in_leaves v.heap.width y g j lj) (λ z. not (en ∙ held_is ∙ z))) in
           subst (λ (l : List ℕ). Became w b (in_front c l L) h) same (v.became L y g)
 
     pub level_page : (p : ℕ) → p ≡ page_in e → PageReady w h p c

@@ -9,7 +9,7 @@ use Rattle.words.specs.Word.{word_at, put, Bytes}
 use Rattle.words.proofs.WordLaws.{length_put, word_same, word_other, word_fits, put_over, put_swap}
 use Rattle.model.specs.Shape.{shape, start, index, item_size, offset_of}
 use Rattle.model.specs.Parts.{first_item_at, used_in, free_header, head_at}
-use Rattle.model.specs.Layout.{Slot, idle, page, Layout, use_size, header}
+use Rattle.model.specs.Layout.{Slot, idle, Layout, use_size, header}
 use Rattle.model.specs.Sound.{idle_slots}
 use Rattle.model.specs.inner.Laid.{Laid}
 use Rattle.model.specs.inner.Items.{InBlocks}
@@ -89,35 +89,35 @@ module _ {w : ℕ} {b : List ℕ} {c size first : ℕ} {h : List ℕ} {q : ℕ} 
       k : Became w b (in_front c (from w first c i.left ss) L) h
       k = i.became L ss d' t
 
-      in-page : number.0 < length ss
-      in-page = omega (arith, number.1, i.few, page_count i.page.width d' t)
+      in_page_lem : number.0 < length ss
+      in_page_lem = omega (arith, number.1, i.few, page_count i.page.width d' t)
 
       place_in : first_item_at (shape w) (first - w) + number.0 * item_size (shape w) c ≡ q - size
       place_in = omega (arith, place, first_is)
 
       place_there : InBlocks (shape w) c (q - size) (start (shape w)) L.blocks
-      place_there = rw (← place_in) (item_in i.page.width d' t number.0 in-page)
+      place_there = rw (← place_in) (item_in i.page.width d' t number.0 in_page_lem)
 
       header_is : (x : ℕ) → x ≡ word_at w h (q - size) → x ≡ header (shape w) c (get_or (in_front c (from w first c i.left ss) L).lists c []) (q - size) (get_or ss number.0 idle)
       header_is x ex =
           let s = page_shown i.page.width k.laid (there_listing c (from w first c i.left ss ++ get_or L.lists c []) t) in
           ex ∙ subst (λ (y : ℕ). word_at w h y ≡ header (shape w) c (get_or (in_front c (from w first c i.left ss) L).lists c []) y (get_or ss number.0 idle)) place_in
-          (item_word (shape w) c w h (get_or (in_front c (from w first c i.left ss) L).lists c []) (first_item_at (shape w) (first - w)) number.0 ss in-page s)
+          (item_word (shape w) c w h (get_or (in_front c (from w first c i.left ss) L).lists c []) (first_item_at (shape w) (first - w)) number.0 ss in_page_lem s)
 
       -- the item is pushed where it is free, and passed over where it is in use
       push_one : (x : ℕ) → x ≡ word_at w h (q - size) → used_in x ≡ 0 → {d : List ℕ} → GaveItem w h (q - size) c d → Became w b (in_front c (from w first c number.0 ss) L) d
       push_one x ex f {d} g =
           let e = said_idle (shape w) c (get_or (in_front c (from w first c i.left ss) L).lists c []) (q - size) x (get_or ss number.0 idle) (header_is x ex) f in
           let low : index (shape w) ≤ q - size = omega (arith, (blocks_range (shape w) c (q - size) (start (shape w)) L.blocks place_there).0) in
-          let p = push_front i.page.width i.bytes i.page.short L c (page_few i.page.width d' t) (from w first c i.left ss) k low place_there (rw (← place_in) (item_stays i.page.width d' t number.0 in-page e)) (rw (← place_in) (item_even i.page.width d' t number.0 in-page e)) g in
+          let p = push_front i.page.width i.bytes i.page.short L c (page_few i.page.width d' t) (from w first c i.left ss) k low place_there (rw (← place_in) (item_stays i.page.width d' t number.0 in_page_lem e)) (rw (← place_in) (item_even i.page.width d' t number.0 in_page_lem e)) g in
           let is : from w first c number.0 ss ≡ offset_of (shape w) (q - size) ∷ from w first c i.left ss =
-          idle_first (shape w) c first number.0 ss in-page e ∙ ap (λ (y : ℕ). offset_of (shape w) y ∷ from w first c (suc number.0) ss) (sym place) ∙ ap (λ (m : ℕ). offset_of (shape w) (q - size) ∷ from w first c m ss) (sym number.1) in
+          idle_first (shape w) c first number.0 ss in_page_lem e ∙ ap (λ (y : ℕ). offset_of (shape w) y ∷ from w first c (suc number.0) ss) (sym place) ∙ ap (λ (m : ℕ). offset_of (shape w) (q - size) ∷ from w first c m ss) (sym number.1) in
           subst (λ (l : List ℕ). Became w b (in_front c l L) d) (sym is) p
 
       pass_one : (x : ℕ) → x ≡ word_at w h (q - size) → (used_in x ≡ 0 → ⊥) → Became w b (in_front c (from w first c number.0 ss) L) h
       pass_one x ex f =
           let e = said_held (shape w) c (get_or (in_front c (from w first c i.left ss) L).lists c []) (q - size) x (get_or ss number.0 idle) (header_is x ex) f in
-          let is : from w first c number.0 ss ≡ from w first c i.left ss = held_first (shape w) c first number.0 ss in-page e.0 e.1 ∙ ap (λ (m : ℕ). from w first c m ss) (sym number.1) in
+          let is : from w first c number.0 ss ≡ from w first c i.left ss = held_first (shape w) c first number.0 ss in_page_lem e.0 e.1 ∙ ap (λ (m : ℕ). from w first c m ss) (sym number.1) in
           subst (λ (l : List ℕ). Became w b (in_front c l L) h) (sym is) k
 
     -- where the item is read and given

@@ -1,5 +1,7 @@
 // The lists of free items are linked anew: pages with most live items first, lower position first among equals, items rising within a page.
 // A list is built from its end: what is to come first is pushed last.
+#![tactic(auto)]
+
 ghost use Rattle.std.specs.Prelude.{◌≡◌, true, ◌≤◌, ◌<◌, ◌^◌, length};
 ghost use Rattle.model.specs.Shape.{shape};
 ghost use Rattle.model.specs.Layout.{Layout};

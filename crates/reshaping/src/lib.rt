@@ -1,4 +1,6 @@
 // A variable block is resized where it stands: its tail is given back, or it grows over a free neighbour behind it.
+#![tactic(auto)]
+
 ghost use Rattle.releasing.specs.Release.{BlockLive};
 ghost use Rattle.reshaping.specs.Reshape.{Reach, Large, Reshaped};
 

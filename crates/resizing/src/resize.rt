@@ -19,7 +19,7 @@ use reshaping::reshape;
 use words::word;
 
 // Where a resized record stands; or that nothing is live there; or that there is no room.
-#[derive(Drop)]
+#[derive(Clone, Copy)]
 pub enum Resized {
     To(Address),
     NotLive,

@@ -2,7 +2,7 @@
 use Rattle.model.specs.Reading as reading
 use Rattle.model.specs.Calls.{Told}
 use Rattle.reading.specs.Stepping.{told_kind}
-use Rattle.serving.specs.declared.walking.Step.{Step}
+use Rattle.serving.specs.declared.walks.Step.{Step}
 
 -- a step's answer, where the walk then stands, and the refusal beside them
 abbrev pub told_step : Step → Told reading.Step

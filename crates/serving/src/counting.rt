@@ -10,7 +10,7 @@ use model::MOST_CLASSES;
 use reading::counting::{Statistics, count, nothing_counted, tabulate};
 
 // The statistics, all 0 where refused, and beside them the refusal number, which is the table's too.
-#[derive(Drop)]
+#[derive(Clone, Copy)]
 pub struct Counted {
     pub statistics: Statistics,
     pub refusal: u64,

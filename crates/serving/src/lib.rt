@@ -1,10 +1,12 @@
 // Every call, over the word size: it checks what it is lent, and then does what the rule of documents 01 and 02 says, or refuses and leaves every byte.
 // The crates `heap` and `hand` give the word size, and are what a program calls.
+#![tactic(auto)]
+
 pub mod counting;
 pub mod lookup;
 pub mod recovery;
 pub mod resize;
-pub mod walking;
+pub mod walks;
 
 ghost use Rattle.std.specs.Prelude.{◌≡◌};
 ghost use Rattle.words.specs.Width.{Width};
@@ -19,7 +21,7 @@ use model::{Address, MAGIC_BYTES, Position, magic};
 use words::word;
 
 // What a call answers: granted, with an address or with 0 where it gives none; or why not.
-#[derive(Drop)]
+#[derive(Clone, Copy)]
 pub enum Answer {
     Granted(Address),
     Refused(Refusal),

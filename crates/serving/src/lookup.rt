@@ -1,6 +1,6 @@
 // The payload at a live address, as that very part of the lent heap.
 ghost use Rattle.words.specs.Width.{Width};
-ghost use Rattle.serving.specs.Lookup.{HeldTold, Part, RefusalTold};
+ghost use Rattle.serving.specs.Lookup.{HeldTold, Part, PartMut, RefusalTold};
 
 use ending::heap_of;
 use examining::{Refusal, Verdict, examine, refusal_number};
@@ -8,7 +8,7 @@ use holding::shown;
 use model::Address;
 
 // How many bytes are shown at an address, 0 where refused; and the refusal number.
-#[derive(Drop)]
+#[derive(Clone, Copy)]
 struct Held {
     pub shown: usize,
     pub refusal: u64,
@@ -61,7 +61,7 @@ pub fn look_up(w: usize, h: &[u8], a: Address) -> &[u8]
 // The same part, lent for writing.
 pub fn look_up_mut(w: usize, h: &mut [u8], a: Address) -> &mut [u8]
     requires { Width w }
-    ensures { Part w h.entry a.0 result }
+    ensures { PartMut w h.entry a.0 result }
 {
     let at = a.0;
     let x = held_at(w, &*h, a);

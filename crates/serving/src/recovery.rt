@@ -8,7 +8,7 @@ use ending::stored_end;
 use examining::{Refusal, Verdict, examine};
 
 // What a sweep answers: how many pages came back; or why it did nothing.
-#[derive(Drop)]
+#[derive(Clone, Copy)]
 pub enum Swept {
     Pages(usize),
     Refused(Refusal),

@@ -1,4 +1,8 @@
 // A report on the heap that standard input holds.
-fn main() {
-    showing::run();
+#![tactic(auto)]
+
+use std::io;
+
+fn main(rt: HostRuntime) -> io::Result<()> {
+    showing::run(&rt)
 }

@@ -5,54 +5,54 @@ ghost use Rattle.model.specs.Sound.{Sound};
 ghost use Rattle.reading.specs.Counting.{AtPage};
 ghost use Rattle.reading.specs.Stepping.{BlockRead};
 
-use crate::text::{write, write_number};
 use model::{Position, end_of, start};
 use reading::counting::page_at;
 use reading::stepping::{Kind, MetBlock, block_at};
+use std::io;
+use std::io::Write;
 
-// A free block's neighbours on the free list.
-fn write_free(next: Position, previous: Position) {
-    write_number(b" free, next ", next.0 as u64);
-    write_number(b", previous ", previous.0 as u64);
+// What a free block's line says of it: its neighbours on the free list.
+fn write_free<W: Write>(out: &mut W, next: Position, previous: Position) -> io::Result<()> {
+    writeln!(out, "free, next {}, previous {}", next.0, previous.0)
 }
 
-// The page at p, of class c.
-fn write_page(w: usize, h: &[u8], p: Position, c: usize)
+// What a page's line says of it: the page at p, of class c.
+fn write_page<W: Write>(out: &mut W, w: usize, h: &[u8], p: Position, c: usize) -> io::Result<()>
     requires { AtPage w h.now p.0 }
 {
     let page = page_at(w, h, p);
-    write_number(b" page, class ", c as u64);
-    write_number(b", live items ", page.held);
-    write_number(b", free items ", page.idle);
+    let held = page.held;
+    let idle = page.idle;
+    writeln!(out, "page, class {c}, live items {held}, free items {idle}")
 }
 
 // A block's line.
-fn write_block(w: usize, h: &[u8], b: MetBlock)
+fn write_block<W: Write>(out: &mut W, w: usize, h: &[u8], b: MetBlock) -> io::Result<()>
     requires { BlockRead w h.now b.position.0 b }
 {
     let p = b.position;
-    write_number(b"", p.0 as u64);
-    write_number(b" ", b.size as u64);
-    let kind = b.kind;
-    match kind {
-        Kind::Free { next, previous } => write_free(next, previous),
-        Kind::Variable => write(b" variable"),
-        Kind::Page { class } => write_page(w, h, p, class),
-        Kind::End => write(b" end"),
+    let size = b.size;
+    write!(out, "{} {size} ", p.0)?;
+    match b.kind {
+        Kind::Free { next, previous } => write_free(out, next, previous),
+        Kind::Variable => writeln!(out, "variable"),
+        Kind::Page { class } => write_page(out, w, h, p, class),
+        Kind::End => writeln!(out, "end"),
     }
-    write(b"\n");
 }
 
 // Every block, in rising order.
-pub fn write_blocks(w: usize, h: &[u8])
+pub fn write_blocks<W: Write>(out: &mut W, w: usize, h: &[u8]) -> io::Result<()>
     requires { Width w × Sound (shape w) h.now }
 {
-    write(b"\nblocks: position, size, what it is\n");
+    writeln!(out, "\nblocks: position, size, what it is")?;
     let end = end_of(h.len());
     let mut p = start(w);
     while p.0 < end.0 {
         let b = block_at(w, h, p);
-        write_block(w, h, b);
-        p = Position(p.0 + b.size);
+        let next = Position(p.0 + b.size);
+        write_block(out, w, h, b)?;
+        p = next;
     }
+    Ok(())
 }

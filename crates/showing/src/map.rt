@@ -1,15 +1,16 @@
 // A map of the data area in text: a character for each part of it, in lines.
-ghost use Rattle.std.specs.Prelude.{◌+◌, ◌≤◌, ◌<◌, ◌^◌};
+ghost use Rattle.std.specs.Prelude.{◌+◌, ◌≤◌, ◌<◌, ◌^◌, IfOk};
 ghost use Rattle.words.specs.Width.{Width};
 ghost use Rattle.model.specs.Shape.{shape};
 ghost use Rattle.model.specs.Sound.{Sound};
 ghost use Rattle.reading.specs.Counting.{AtPage};
 ghost use Rattle.reading.specs.Stepping.{BlockRead};
 
-use crate::text::{write, write_number};
 use model::{Position, end_of, start};
 use reading::counting::page_at;
 use reading::stepping::{Kind, MetBlock, block_at};
+use std::io;
+use std::io::Write;
 
 // A map has at most so many characters, and so many in a line.
 const CHARACTERS: usize = 1024;
@@ -17,7 +18,7 @@ const CHARACTERS: usize = 1024;
 const COLUMNS: usize = 64;
 
 // Where the next character goes: the position whose block it shows, and its place in its line.
-#[derive(Drop)]
+#[derive(Clone, Copy)]
 struct Pen {
     at: Position,
     column: usize,
@@ -57,40 +58,39 @@ fn block_mark(w: usize, h: &[u8], b: MetBlock) -> u8
 }
 
 // One character, and the column after it.
-fn put(mark: u8, column: usize) -> usize
+fn put<W: Write>(out: &mut W, mark: u8, column: usize) -> io::Result<usize>
     requires { column < 64 }
-    ensures { result < 64 }
+    ensures { IfOk result (λ next. next < 64) }
 {
-    let one = [mark];
-    write(&one);
+    out.write_all(&[mark])?;
     if column + 1 < COLUMNS {
-        return column + 1;
+        return Ok(column + 1);
     }
-    write(b"\n");
-    0
+    writeln!(out)?;
+    Ok(0)
 }
 
 // The characters of a block that ends at `end`, each for `part` bytes.
-fn draw(mark: u8, pen: Pen, part: usize, end: Position) -> Pen
+fn draw<W: Write>(out: &mut W, mark: u8, pen: Pen, part: usize, end: Position) -> io::Result<Pen>
     requires { (1 ≤ part) × (part < 2 ^ 63) × (end.0 < 2 ^ 63) × (pen.column < 64) }
-    ensures { result.column < 64 }
+    ensures { IfOk result (λ next. next.column < 64) }
 {
     let mut at = pen.at.0;
     let mut column = pen.column;
     while at < end.0 {
-        column = put(mark, column);
+        column = put(out, mark, column)?;
         at += part;
     }
-    Pen {
+    Ok(Pen {
         at: Position(at),
-        column: column,
-    }
+        column,
+    })
 }
 
 // The map's characters, each for `part` bytes.
-fn draw_all(w: usize, h: &[u8], part: usize) -> Pen
+fn draw_all<W: Write>(out: &mut W, w: usize, h: &[u8], part: usize) -> io::Result<Pen>
     requires { Width w × Sound (shape w) h.now × (1 ≤ part) × (part < 2 ^ 63) }
-    ensures { result.column < 64 }
+    ensures { IfOk result (λ pen. pen.column < 64) }
 {
     let end = end_of(h.len());
     let mut p = start(w);
@@ -98,23 +98,24 @@ fn draw_all(w: usize, h: &[u8], part: usize) -> Pen
     while p.0 < end.0 {
         let b = block_at(w, h, p);
         let next = Position(p.0 + b.size);
-        pen = draw(block_mark(w, h, b), pen, part, next);
+        pen = draw(out, block_mark(w, h, b), pen, part, next)?;
         p = next;
     }
-    pen
+    Ok(pen)
 }
 
 // The map, with a line that says how to read it.
-pub fn write_map(w: usize, h: &[u8])
+pub fn write_map<W: Write>(out: &mut W, w: usize, h: &[u8]) -> io::Result<()>
     requires { Width w × Sound (shape w) h.now }
 {
     let part = (end_of(h.len()).0 - start(w).0) / CHARACTERS + 1;
-    write_number(b"\nmap: each character is ", part as u64);
-    write(
-        b" bytes, and shows the block at the first of them: . free, # variable, 0 to 9 page by tenths of its items in use (9: nine or ten)\n",
-    );
-    let pen = draw_all(w, h, part);
+    writeln!(
+        out,
+        "\nmap: each character is {part} bytes, and shows the block at the first of them: . free, # variable, 0 to 9 page by tenths of its items in use (9: nine or ten)"
+    )?;
+    let pen = draw_all(out, w, h, part)?;
     if pen.column != 0 {
-        write(b"\n");
+        writeln!(out)?;
     }
+    Ok(())
 }

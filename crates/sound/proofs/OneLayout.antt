@@ -38,12 +38,12 @@ module _ {w : ℕ} (wd : Width w) where
       let n : length ss ≡ length ts = a.1 ∙ sym b'.1 in
       ap₂ (λ (x : ℕ) (y : List Slot). page c x y) (omega (arith, e, ap (λ (x : ℕ). x * item_size (shape w) c) n)) (slots_one b c (first_item_at (shape w) p) ss ts n h g)
 
-  use-one : (b : List ℕ) (p : ℕ) (u v : Use) → AllowedUse (shape w) u → AllowedUse (shape w) v → tag_of (use_size (shape w) u) (use_kind u) ≡ tag_of (use_size (shape w) v) (use_kind v) → Headers w b p u → Headers w b p v → u ≡ v
+  use_one : (b : List ℕ) (p : ℕ) (u v : Use) → AllowedUse (shape w) u → AllowedUse (shape w) v → tag_of (use_size (shape w) u) (use_kind u) ≡ tag_of (use_size (shape w) v) (use_kind v) → Headers w b p u → Headers w b p v → u ≡ v
   unfolding use_kind Headers
-  use-one b p (variable s) (variable t) a b' e h k = unfold use_size in ap (λ (x : ℕ). variable x) (omega (arith, e))
-  use-one b p (variable s) (page d j ts) a b' e h k = absurd (omega (arith, use_size_lem wd (variable s) a, use_size_lem wd (page d j ts) b'))
-  use-one b p (page c i ss) (variable t) a b' e h k = absurd (omega (arith, use_size_lem wd (page c i ss) a, use_size_lem wd (variable t) b'))
-  use-one b p (page c i ss) (page d j ts) a b' e h k =
+  use_one b p (variable s) (variable t) a b' e h k = unfold use_size in ap (λ (x : ℕ). variable x) (omega (arith, e))
+  use_one b p (variable s) (page d j ts) a b' e h k = absurd (omega (arith, use_size_lem wd (variable s) a, use_size_lem wd (page d j ts) b'))
+  use_one b p (page c i ss) (variable t) a b' e h k = absurd (omega (arith, use_size_lem wd (page c i ss) a, use_size_lem wd (variable t) b'))
+  use_one b p (page c i ss) (page d j ts) a b' e h k =
       subst (λ (x : ℕ). AllowedUse (shape w) (page x j ts) → use_size (shape w) (page c i ss) ≡ use_size (shape w) (page x j ts) → Slots w b x (first_item_at (shape w) p) ts → page c i ss ≡ page x j ts)
       (page_class wd b c i p ss a h ∙ sym (page_class wd b d j p ts b' k)) (λ b'' f g. pages_one b p c i j ss ts a b'' f h g) b' (omega (arith, e)) k
 
@@ -60,7 +60,7 @@ module _ {w : ℕ} (wd : Width w) where
       let f : t ≡ s = sym k.0.0 ∙ h.0.0 in
       ap₂ (λ (x : ℕ) (xs : List Block). free x ∷ xs) (sym f) (blocks_one b (p + s) p p bs cs h.1 (rw f at k.1) a.1 d.1 (rw f at e))
   blocks_one b p q r (used u ∷ bs) (used v ∷ cs) h k a d e =
-      let f : v ≡ u = use-one b p v u d.0 a.0 (sym k.0.0 ∙ h.0.0) k.0.2 h.0.2 in
+      let f : v ≡ u = use_one b p v u d.0 a.0 (sym k.0.0 ∙ h.0.0) k.0.2 h.0.2 in
       ap₂ (λ (x : Use) (xs : List Block). used x ∷ xs) (sym f) (blocks_one b (p + use_size (shape w) u) q r bs cs h.1 (rw f at k.1) a.1 d.1 (rw f at e))
 
   heap_layout : (b : List ℕ) (L M : Layout) → Here (shape w) b L → Here (shape w) b M → L ≡ M

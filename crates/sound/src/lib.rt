@@ -1,4 +1,6 @@
 // The check of a heap: one walk over its blocks that marks the free items in a map of bits, and one pass over the item lists that counts the marked items.
+#![tactic(auto)]
+
 ghost use Rattle.std.specs.Prelude.{◌≡◌, [], ◌-◌, ◌/◌, ◌≤◌, length};
 ghost use Rattle.words.specs.Width.{Width};
 ghost use Rattle.model.specs.Shape.{shape, start, end_of};
@@ -22,7 +24,7 @@ use words::bits::spread;
 use words::word;
 
 // What a map was enough for: it is told whether blocks and lists are right, or the walk stands at a page that reaches beyond the map.
-#[derive(Drop)]
+#[derive(Clone, Copy)]
 enum Filling {
     Told(bool),
     Beyond(Stand),

@@ -1,4 +1,6 @@
 // The sweep, past the check: pages with no live item are given back, and then every class's list is linked anew.
+#![tactic(auto)]
+
 ghost use Rattle.std.specs.Prelude.{◌≤◌, length};
 ghost use Rattle.words.specs.Width.{Width};
 ghost use Rattle.model.specs.Shape.{shape};

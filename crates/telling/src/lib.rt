@@ -1,4 +1,6 @@
 // What the words of one block tell: the size that a tag says, and whether a variable or a free block stands there.
+#![tactic(auto)]
+
 ghost use Rattle.std.specs.Prelude.{◌≡◌, ◌-◌, ◌<◌, ◌≤◌, false, length};
 ghost use Rattle.words.specs.Width.{Width};
 ghost use Rattle.words.specs.Word.{word_at};

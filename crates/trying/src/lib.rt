@@ -1,4 +1,6 @@
 // Resize as one call, put together from its three ways, which are calls themselves and are tried in turn.
+#![tactic(auto)]
+
 ghost use Rattle.std.specs.Prelude.{◌≡◌};
 ghost use Rattle.words.specs.Width.{Width};
 ghost use Rattle.model.specs.Shape.{shape};

@@ -1,4 +1,6 @@
 // The pass over the item lists: each item names one next item, so a list that ends meets none twice, and it is enough that the lists meet as many marked items as there are marks.
+#![tactic(auto)]
+
 ghost use Rattle.std.specs.Prelude.{◌≡◌, true, [], ◌≤◌, ◌<◌, length};
 ghost use Rattle.words.specs.Width.{Width};
 ghost use Rattle.model.specs.Shape.{shape, start, end_of};

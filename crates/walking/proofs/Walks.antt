@@ -27,7 +27,7 @@ use Rattle.walking.specs.Told.{BlocksMarked, WholeMarked, WalkRoom, WalkRoomAt, 
 use Rattle.telling.specs.Neighbours.{touches, expected}
 use Rattle.walking.specs.declared.Stand.{Stand}
 use Rattle.walking.specs.declared.Walk.TheVariants.{Unsound, Beyond, On}
-use Rattle.walking.specs.declared.Passed.TheVariants.{Unsound as None, To}
+use Rattle.walking.specs.declared.Passed.TheVariants.{Unsound as Broken, To}
 use Rattle.marking.proofs.PageLaws.{other_in, variable_in}
 use Rattle.marking.proofs.MapLaws.{adds_none, adds_append, marking_on}
 
@@ -185,7 +185,7 @@ beyond_same e = cc
 on_same : {s x : Stand} → On s ≡ On x → s ≡ x
 on_same e = cc
 
-none_to : {s : Stand} → None ≡ To s → ⊥
+none_to : {s : Stand} → Broken ≡ To s → ⊥
 none_to {s} e = let z : ◌≡◌ {A = ℕ} 0 1 = cc in omega arith
 
 to_same : {s x : Stand} → To s ≡ To x → s ≡ x
@@ -201,7 +201,7 @@ walk_beyond {w} {b} {end} {P} {m'} s v l = record { is_no = λ y. absurd (wrong_
 pub walk_on : {w : ℕ} {b : List ℕ} {end : ℕ} {P : Stand → Type 0} {m' : List ℕ} (s : Stand) → StoodAt w b end s m' → P s → WalkTold w b end P (On s) m'
 walk_on {w} {b} {end} {P} {m'} s v l = record { is_no = λ y. absurd (wrong_on (sym y)); is_beyond = λ x y. absurd (on_beyond y); is_on = λ x y. subst (λ (z : Stand). StoodAt w b end z m' × P z) (on_same y) (v, l) }
 
-pub pass_wrong : {w : ℕ} {b : List ℕ} {end : ℕ} {P : Stand → Type 0} {m : List ℕ} → (Whole w b end → ⊥) → PassTold w b end P None m
+pub pass_wrong : {w : ℕ} {b : List ℕ} {end : ℕ} {P : Stand → Type 0} {m : List ℕ} → (Whole w b end → ⊥) → PassTold w b end P Broken m
 pass_wrong f = record { is_no = λ _. f; is_to = λ s y. absurd (none_to y) }
 
 pub pass_to : {w : ℕ} {b : List ℕ} {end : ℕ} {P : Stand → Type 0} {m : List ℕ} (s : Stand) → StoodAt w b end s m → P s → PassTold w b end P (To s) m

@@ -10,7 +10,7 @@ use Rattle.walking.specs.declared.Stand.{Stand}
 use Rattle.walking.specs.declared.Walk.{Walk}
 use Rattle.walking.specs.declared.Walk.TheVariants.{Unsound as Wrong, Beyond, On}
 use Rattle.walking.specs.declared.Passed.{Passed}
-use Rattle.walking.specs.declared.Passed.TheVariants.{Unsound as None, To}
+use Rattle.walking.specs.declared.Passed.TheVariants.{Unsound as Broken, To}
 use Rattle.marking.specs.Told.{Sizes, Marking}
 use Rattle.telling.specs.Neighbours.{touches, expected}
 
@@ -69,5 +69,5 @@ pub record WalkTold (w : ℕ) (b : List ℕ) (end : ℕ) (P : Stand → Type 0) 
 
 -- the same of a walk over blocks without items, whatever the map
 pub record PassTold (w : ℕ) (b : List ℕ) (end : ℕ) (P : Stand → Type 0) (r : Passed) (m : List ℕ) : Type 0 where
-  pub is_no : r ≡ None → Whole w b end → ⊥
+  pub is_no : r ≡ Broken → Whole w b end → ⊥
   pub is_to : (s : Stand) → r ≡ To s → StoodAt w b end s m × P s

@@ -1,4 +1,6 @@
 // The walk over a heap's blocks, which have to fill the area from the start of the data area to the end.
+#![tactic(auto)]
+
 ghost use Rattle.std.specs.Prelude.{◌≡◌, List, ℕ, ◌<◌, length};
 ghost use Rattle.marking.specs.Told.{MapSize};
 ghost use Rattle.walking.specs.Told.{end_from, WalkRoomAt, StoodAt, Halted, HaltsIn, PassTold, WalkTold};
@@ -10,7 +12,7 @@ use telling::{eights, is_free, is_variable, tag_before};
 use words::word;
 
 // Where a walk stands: how many times 8 bytes are left to the end, the last free block that it met (0: none), where the link to the next one stands, and how many items are marked.
-#[derive(Drop)]
+#[derive(Clone, Copy)]
 pub struct Stand {
     pub at: Position,
     pub left: usize,
@@ -20,7 +22,7 @@ pub struct Stand {
 }
 
 // What a walk tells: the heap is not sound; the walk stands at a page that reaches beyond the map; or it has gone on.
-#[derive(Drop)]
+#[derive(Clone, Copy)]
 pub enum Walk {
     Unsound,
     Beyond(Stand),
@@ -28,7 +30,7 @@ pub enum Walk {
 }
 
 // What a walk over blocks without items tells: the heap is not sound, or where it has come to.
-#[derive(Drop)]
+#[derive(Clone, Copy)]
 pub enum Passed {
     Unsound,
     To(Stand),

@@ -1,4 +1,6 @@
 // Words of 4 or 8 bytes in a slice of bytes, bytes copied within one, and maps of bits.
+#![tactic(auto)]
+
 pub mod bits;
 pub mod bytes;
 

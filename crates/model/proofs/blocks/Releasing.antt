@@ -24,15 +24,15 @@ before_apart (free s) (free t ∷ bs) h = absurd (omega (arith, h.0))
 before_apart (free s) (used u ∷ bs) h = refl
 before_apart (used u) bs h = refl
 
-in-front-apart : (d : ℕ) (pre bs : List Block) → Apart d (pre ++ bs) → in_front pre bs ≡ pre ++ bs
+in_front_apart : (d : ℕ) (pre bs : List Block) → Apart d (pre ++ bs) → in_front pre bs ≡ pre ++ bs
 unfolding in_front Apart
-in-front-apart d [] bs h = refl
-in-front-apart d (b ∷ pre) bs h = ap (λ (l : List Block). before b l) (in-front-apart (if_free b 1 0) pre bs h.1) ∙ before_apart b (pre ++ bs) h.1
+in_front_apart d [] bs h = refl
+in_front_apart d (b ∷ pre) bs h = ap (λ (l : List Block). before b l) (in_front_apart (if_free b 1 0) pre bs h.1) ∙ before_apart b (pre ++ bs) h.1
 
-in-front-append : (xs ys bs : List Block) → in_front (xs ++ ys) bs ≡ in_front xs (in_front ys bs)
+in_front_append : (xs ys bs : List Block) → in_front (xs ++ ys) bs ≡ in_front xs (in_front ys bs)
 unfolding in_front
-in-front-append [] ys bs = refl
-in-front-append (x ∷ xs) ys bs = ap (λ (l : List Block). before x l) (in-front-append xs ys bs)
+in_front_append [] ys bs = refl
+in_front_append (x ∷ xs) ys bs = ap (λ (l : List Block). before x l) (in_front_append xs ys bs)
 
 -- a free neighbour of so many bytes, or none
 pub data Side : List Block → ℕ → Type 0 where
@@ -95,7 +95,7 @@ module _ (S : Shape) where
 
     left_joined : in_front t.pre (free (t.size + r) ∷ post) ≡ in_front pre (free joined_size ∷ post)
     unfolding in_front before
-    left_joined = rw ep (in-front-append pre lefts (free (t.size + r) ∷ post) ∙ ap (λ (x : List Block). in_front pre x) (go left))
+    left_joined = rw ep (in_front_append pre lefts (free (t.size + r) ∷ post) ∙ ap (λ (x : List Block). in_front pre x) (go left))
       where
         go : {ss : List Block} {n : ℕ} → Side ss n → in_front ss (free (t.size + r) ∷ post) ≡ free (n + (t.size + r)) ∷ post
         go nobody = ap (λ (x : ℕ). free x ∷ post) (omega arith)
@@ -118,7 +118,7 @@ module _ (S : Shape) where
     unfolding Apart
     released_is a z k =
         ap (λ (x : List Block). in_front t.pre x) (right_joined k) ∙ left_joined
-        ∙ in-front-apart 0 pre (free joined_size ∷ post) (apart_append 0 pre (free joined_size ∷ post) (apart_left 0 pre (old ++ post) a) (omega arith, k))
+        ∙ in_front_apart 0 pre (free joined_size ∷ post) (apart_append 0 pre (free joined_size ∷ post) (apart_left 0 pre (old ++ post) a) (omega arith, k))
 
     -- its extent, and that it holds no free item where the block holds none
     pub ends_old : (p : ℕ) → ends S p old ≡ p + joined_size

@@ -57,7 +57,7 @@ module _ (S : Shape) where
   both_eight s r (neighbour k) a = omega (arith, a.0.1, a.1.0.1)
 
   -- a block with what stands right behind it, and a size above the largest item's
-  module _ (n : ℕ) (L : Layout) (t : Spot) (rights post : List Block) (r : ℕ) (side : Side rights r) (Post-is : t.post ≡ rights ++ post) (clear : Apart 1 post) (big : largest_item S < n) where
+  module _ (n : ℕ) (L : Layout) (t : Spot) (rights post : List Block) (r : ℕ) (side : Side rights r) (post_is : t.post ≡ rights ++ post) (clear : Apart 1 post) (big : largest_item S < n) where
     -- what the block takes of both
     abbrev pub taken : ℕ
     taken = takes S (need_of S n) (t.size + r)
@@ -74,7 +74,7 @@ module _ (S : Shape) where
     unfolding stays shrunk reshaped
     stays_cut l good =
         let e : t.size - need_of S n + r ≡ t.size + r - need_of S n = omega arith in
-        rw (lt-leb n (largest_item S) big, le-leb (need_of S n) t.size (omega arith), le-leb (need_of S n + least_free S) t.size l, Post-is, joined_tail (t.size - need_of S n) rights post r side clear, le-leb (need_of S n + least_free S) (t.size + r) (omega arith), lt-ltb (need_of S n) (t.size + r) (omega arith), e)
+        rw (lt-leb n (largest_item S) big, le-leb (need_of S n) t.size (omega arith), le-leb (need_of S n + least_free S) t.size l, post_is, joined_tail (t.size - need_of S n) rights post r side clear, le-leb (need_of S n + least_free S) (t.size + r) (omega arith), lt-ltb (need_of S n) (t.size + r) (omega arith), e)
         refl
 
     -- the rule's cut of both together
@@ -88,7 +88,7 @@ module _ (S : Shape) where
 
     pub stays_grown : t.size < need_of S n → need_of S n ≤ t.size + r → Good S → stays S n (block t) L ≡ some resized_in
     unfolding stays grown reshaped
-    stays_grown l m good = rw (lt-leb n (largest_item S) big, lt-leb (need_of S n) t.size l) (go side Post-is m)
+    stays_grown l m good = rw (lt-leb n (largest_item S) big, lt-leb (need_of S n) t.size l) (go side post_is m)
       where
         go : {rs : List Block} {k : ℕ} → Side rs k → t.post ≡ rs ++ post → need_of S n ≤ t.size + k
             → reshaped S (need_of S n) t L (grown S (need_of S n) t.size t.post) ≡ some (three S L.lists t.pre (parts S (takes S (need_of S n) (t.size + k)) (t.size + k) (variable (takes S (need_of S n) (t.size + k)))) post)
@@ -97,7 +97,7 @@ module _ (S : Shape) where
 
     pub stays_none : t.size + r < need_of S n → stays S n (block t) L ≡ none
     unfolding stays grown reshaped Apart
-    stays_none l = rw (lt-leb n (largest_item S) big, lt-leb (need_of S n) t.size (omega arith)) (go side post Post-is clear l)
+    stays_none l = rw (lt-leb n (largest_item S) big, lt-leb (need_of S n) t.size (omega arith)) (go side post post_is clear l)
       where
         go : {rs : List Block} {k : ℕ} → Side rs k → (ps : List Block) → t.post ≡ rs ++ ps → Apart 1 ps → t.size + k < need_of S n
             → reshaped S (need_of S n) t L (grown S (need_of S n) t.size t.post) ≡ none
@@ -111,7 +111,7 @@ module _ (S : Shape) where
     both = used (variable t.size) ∷ rights
 
     pub both_blocks : L.blocks ≡ t.pre ++ ((used (variable t.size) ∷ []) ++ t.post) → L.blocks ≡ t.pre ++ (both ++ post)
-    both_blocks e = e ∙ ap (λ (l : List Block). t.pre ++ (used (variable t.size) ∷ l)) Post-is
+    both_blocks e = e ∙ ap (λ (l : List Block). t.pre ++ (used (variable t.size) ∷ l)) post_is
 
     -- THE LAW: the layout with the block resized is valid
     module _ (end : ℕ) (good : Good S) (room : need_of S n ≤ t.size + r) (v : Valid S end L) (bl : L.blocks ≡ t.pre ++ ((used (variable t.size) ∷ []) ++ t.post)) where

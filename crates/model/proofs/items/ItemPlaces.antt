@@ -27,16 +27,16 @@ module _ (S : Shape) where
   slots_to s d r k c q p (x ∷ ss) (inl e) = inl e
   slots_to s d r k c q p (x ∷ ss) (inr h) = inr (slots_to s d r (k + item_size S d) c q (p + item_size S c) ss h)
 
-  use-to : (s : Slot) (r c q p : ℕ) (u : Use) → InUse S c q p u → InUse S c q p (use_to S s r p u)
+  use_to_lem : (s : Slot) (r c q p : ℕ) (u : Use) → InUse S c q p u → InUse S c q p (use_to S s r p u)
   unfolding InUse use_to
-  use-to s r c q p (variable t) h = h
-  use-to s r c q p (page d k ss) h = (h.0, slots_to s d r (p + S.word) c q (p + S.word) ss h.1)
+  use_to_lem s r c q p (variable t) h = h
+  use_to_lem s r c q p (page d k ss) h = (h.0, slots_to s d r (p + S.word) c q (p + S.word) ss h.1)
 
   blocks_to : (s : Slot) (r c q p : ℕ) (bs : List Block) → InBlocks S c q p bs → InBlocks S c q p (item_to S s r p bs)
   unfolding InBlocks item_to
   blocks_to s r c q p [] h = h
   blocks_to s r c q p (free t ∷ bs) h = blocks_to s r c q (p + t) bs h
-  blocks_to s r c q p (used u ∷ bs) (inl h) = inl (use-to s r c q p u h)
+  blocks_to s r c q p (used u ∷ bs) (inl h) = inl (use_to_lem s r c q p u h)
   blocks_to s r c q p (used u ∷ bs) (inr h) = inr (subst (λ (z : ℕ). InBlocks S c q (p + z) (item_to S s r (p + use_size S u) bs)) (sym (size_use_to S s r p u)) (blocks_to s r c q (p + use_size S u) bs h))
 
   -- among blocks in two runs
@@ -47,33 +47,33 @@ module _ (S : Shape) where
     in_rear p (free t ∷ xs) ys h = in_rear (p + t) xs ys h
     in_rear p (used u ∷ xs) ys h = inr (in_rear (p + use_size S u) xs ys h)
 
-    in-front : (p : ℕ) (xs ys : List Block) → InBlocks S c q p xs → InBlocks S c q p (xs ++ ys)
+    in_front_lem : (p : ℕ) (xs ys : List Block) → InBlocks S c q p xs → InBlocks S c q p (xs ++ ys)
     unfolding InBlocks
-    in-front p [] ys h = absurd h
-    in-front p (free t ∷ xs) ys h = in-front (p + t) xs ys h
-    in-front p (used u ∷ xs) ys (inl h) = inl h
-    in-front p (used u ∷ xs) ys (inr h) = inr (in-front (p + use_size S u) xs ys h)
+    in_front_lem p [] ys h = absurd h
+    in_front_lem p (free t ∷ xs) ys h = in_front_lem (p + t) xs ys h
+    in_front_lem p (used u ∷ xs) ys (inl h) = inl h
+    in_front_lem p (used u ∷ xs) ys (inr h) = inr (in_front_lem (p + use_size S u) xs ys h)
 
-    in-which : (p : ℕ) (xs ys : List Block) → InBlocks S c q p (xs ++ ys) → InBlocks S c q p xs ⊎ InBlocks S c q (ends S p xs) ys
+    in_which : (p : ℕ) (xs ys : List Block) → InBlocks S c q p (xs ++ ys) → InBlocks S c q p xs ⊎ InBlocks S c q (ends S p xs) ys
     unfolding InBlocks ends size_of
-    in-which p [] ys h = inr h
-    in-which p (free t ∷ xs) ys h = in-which (p + t) xs ys h
-    in-which p (used u ∷ xs) ys (inl h) = inl (inl h)
-    in-which p (used u ∷ xs) ys (inr h) = ⊎_elim (λ i. inl (inr i)) (λ i. inr i) (in-which (p + use_size S u) xs ys h)
+    in_which p [] ys h = inr h
+    in_which p (free t ∷ xs) ys h = in_which (p + t) xs ys h
+    in_which p (used u ∷ xs) ys (inl h) = inl (inl h)
+    in_which p (used u ∷ xs) ys (inr h) = ⊎_elim (λ i. inl (inr i)) (λ i. inr i) (in_which (p + use_size S u) xs ys h)
 
     -- where a free block becomes other blocks of the same extent
     in_taken : (p s : ℕ) (pre mid post : List Block) → ends S (ends S p pre) mid ≡ ends S (ends S p pre) (free s ∷ []) → InBlocks S c q p (pre ++ ((free s ∷ []) ++ post)) → InBlocks S c q p (pre ++ (mid ++ post))
     in_taken p s pre mid post e h =
-        ⊎_elim (λ i. in-front p pre (mid ++ post) i)
+        ⊎_elim (λ i. in_front_lem p pre (mid ++ post) i)
         (λ i. in_rear p pre (mid ++ post) (in_rear (ends S p pre) mid post (rw e (behind (ends S p pre) i))))
-        (in-which p pre ((free s ∷ []) ++ post) h)
+        (in_which p pre ((free s ∷ []) ++ post) h)
       where
         behind : (k : ℕ) → InBlocks S c q k (free s ∷ post) → InBlocks S c q (ends S k (free s ∷ [])) post
         behind k i = unfold InBlocks in unfold ends in unfold size_of in i
 
     -- no variable block begins at an item's header
     pub no_block : (p s : ℕ) (pre post : List Block) → 0 < s → ends S p pre ≡ q → InBlocks S c q p (pre ++ (used (variable s) ∷ post)) → ⊥
-    no_block p s pre post some_byte e h = ⊎_elim (λ i. omega (arith, blocks_range S c q p pre i, e)) (λ i. behind (ends S p pre) e i) (in-which p pre (used (variable s) ∷ post) h)
+    no_block p s pre post some_byte e h = ⊎_elim (λ i. omega (arith, blocks_range S c q p pre i, e)) (λ i. behind (ends S p pre) e i) (in_which p pre (used (variable s) ∷ post) h)
       where
         apart : (k : ℕ) → InBlocks S c q k (used (variable s) ∷ post) → InBlocks S c q (k + s) post
         apart k i = unfold InBlocks in unfold InUse in unfold use_size in ⊎_elim (λ j. absurd j) (λ j. j) i

@@ -75,17 +75,17 @@ module _ (S : Shape) where
     slots_away c p (x ∷ xs) h n =
         rw (ne_eqb q p (λ e. n (omega arith) (omega arith)), header_away c p x h (λ e. n (omega arith) (omega arith)), slots_away c (p + item_size S c) xs (omega arith) (λ k l. n (omega arith) (omega arith)))
 
-    use-away : (p : ℕ) (u : Use) → index S ≤ p → (p ≤ q → q < p + use_size S u → ⊥) → use_words S ls' p (use_to S s q p u) ≡ use_words S ls p u
+    use_away : (p : ℕ) (u : Use) → index S ≤ p → (p ≤ q → q < p + use_size S u → ⊥) → use_words S ls' p (use_to S s q p u) ≡ use_words S ls p u
     unfolding use_words use_to use_size
-    use-away p (variable t) h n = refl
-    use-away p (page c k ss) h n = rw (length_slot_to s c q (p + S.word) ss, slots_away c (p + S.word) ss (omega arith) (λ i j. n (omega arith) (omega arith)))
+    use_away p (variable t) h n = refl
+    use_away p (page c k ss) h n = rw (length_slot_to s c q (p + S.word) ss, slots_away c (p + S.word) ss (omega arith) (λ i j. n (omega arith) (omega arith)))
 
     blocks_away : (p prev next : ℕ) (bs : List Block) → index S ≤ p → (p ≤ q → q < ends S p bs → ⊥) → block_words S ls' p prev next (item_to S s q p bs) ≡ block_words S ls p prev next bs
     unfolding block_words item_to ends own size_of
     blocks_away p prev next [] h n = refl
     blocks_away p prev next (free t ∷ bs) h n = rw (first_item_to s q (p + t) bs next, blocks_away (p + t) p next bs (omega arith) (λ i j. n (omega arith) j))
     blocks_away p prev next (used u ∷ bs) h n =
-        rw (size_use_to s q p u, use-away p u h (λ i j. n i (omega (arith, le_ends S (p + use_size S u) bs))), blocks_away (p + use_size S u) prev next bs (omega arith) (λ i j. n (omega arith) j))
+        rw (size_use_to s q p u, use_away p u h (λ i j. n i (omega (arith, le_ends S (p + use_size S u) bs))), blocks_away (p + use_size S u) prev next bs (omega arith) (λ i j. n (omega arith) j))
 
     -- where it stands, its header changes
     module _ (c : ℕ) where
@@ -114,10 +114,10 @@ module _ (S : Shape) where
             ne_eqb q (p + (tags S + length ss * item_size S c + k) - S.word) (λ e. omega (arith, r.1)),
           )
 
-      use-here : (p : ℕ) (u : Use) → index S ≤ p → InUse S c q p u → use_words S ls' p (use_to S s q p u) ≡ set_at q (header S c (get_or ls' c []) q s) (use_words S ls p u)
+      use_here : (p : ℕ) (u : Use) → index S ≤ p → InUse S c q p u → use_words S ls' p (use_to S s q p u) ≡ set_at q (header S c (get_or ls' c []) q s) (use_words S ls p u)
       unfolding InUse
-      use-here p (variable t) h i = absurd i
-      use-here p (page d k ss) h i =
+      use_here p (variable t) h i = absurd i
+      use_here p (page d k ss) h i =
           subst (λ (d : ℕ). use_words S ls' p (use_to S s q p (page d k ss)) ≡ set_at q (header S c (get_or ls' c []) q s) (use_words S ls p (page d k ss))) i.0 (page_here p k ss h i.1)
 
       pub blocks_here : (p prev next : ℕ) (bs : List Block) → AllAllowed S bs → index S ≤ p → InBlocks S c q p bs → block_words S ls' p prev next (item_to S s q p bs) ≡ set_at q (header S c (get_or ls' c []) q s) (block_words S ls p prev next bs)
@@ -131,10 +131,10 @@ module _ (S : Shape) where
       blocks_here p prev next (used u ∷ bs) a h (inl i) =
           let r = use_range c q p u i in
           let v = header S c (get_or ls' c []) q s in
-          rw (size_use_to s q p u, set_append q v (use_words S ls p u) (block_words S ls (p + use_size S u) prev next bs), use-here p u h i, blocks_away (p + use_size S u) prev next bs (omega arith) (λ j k. omega (arith, r.1)))
+          rw (size_use_to s q p u, set_append q v (use_words S ls p u) (block_words S ls (p + use_size S u) prev next bs), use_here p u h i, blocks_away (p + use_size S u) prev next bs (omega arith) (λ j k. omega (arith, r.1)))
           (ap (λ (l : List Word). set_at q v (use_words S ls p u) ++ l) (sym (set_away S.word good.word q v (p + use_size S u) (block_words S ls (p + use_size S u) prev next bs) (ends S (p + use_size S u) bs) (rise_blocks S ls (p + use_size S u) prev next bs a.1) (λ j k. omega (arith, r.1)))))
       blocks_here p prev next (used u ∷ bs) a h (inr i) =
           let r = blocks_range c q (p + use_size S u) bs i in
           let v = header S c (get_or ls' c []) q s in
-          rw (size_use_to s q p u, set_append q v (use_words S ls p u) (block_words S ls (p + use_size S u) prev next bs), use-away p u h (λ j k. omega (arith, r.0)), set_away S.word good.word q v p (use_words S ls p u) (p + use_size S u) (rise_own S ls p prev next (used u) a.0) (λ j k. omega (arith, r.0)))
+          rw (size_use_to s q p u, set_append q v (use_words S ls p u) (block_words S ls (p + use_size S u) prev next bs), use_away p u h (λ j k. omega (arith, r.0)), set_away S.word good.word q v p (use_words S ls p u) (p + use_size S u) (rise_own S ls p prev next (used u) a.0) (λ j k. omega (arith, r.0)))
           (ap (λ (l : List Word). use_words S ls p u ++ l) (blocks_here (p + use_size S u) prev next bs a.1 (omega arith) i))

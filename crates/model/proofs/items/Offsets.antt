@@ -45,21 +45,21 @@ module _ {w : ℕ} (wd : Width w) where
       go (yes e) (no n) r = rw (eq-eqb o (p - (index (shape w))) e) (omega arith)
       go (yes e) (yes n) r = absurd (omega (arith, (slots_off c o (p + item_size (shape w) c) ss (omega arith) (item_even wd p c m) n).low))
 
-  in-off : (c o p : ℕ) (b : Block) → (index (shape w)) ≤ p → p % 8 ≡ 0 → 1 ≤ times o (idle_in (shape w) c p b) → Off w o (p + w) (p + size_of (shape w) b)
+  in_off : (c o p : ℕ) (b : Block) → (index (shape w)) ≤ p → p % 8 ≡ 0 → 1 ≤ times o (idle_in (shape w) c p b) → Off w o (p + w) (p + size_of (shape w) b)
   unfolding idle_in size_of use_size times
-  in-off c o p (free s) h m k = absurd (omega arith)
-  in-off c o p (used (variable s)) h m k = absurd (omega arith)
-  in-off c o p (used (page d j ss)) h m k = go (ℕ_discrete c d)
+  in_off c o p (free s) h m k = absurd (omega arith)
+  in_off c o p (used (variable s)) h m k = absurd (omega arith)
+  in_off c o p (used (page d j ss)) h m k = go (ℕ_discrete c d)
     where
       go : Dec (c ≡ d) → Off w o (p + w) (p + (2 * w + length ss * item_size (shape w) d + j))
       go (yes e) = let z = slots_off d o (p + w) ss (omega arith) (first_even wd p m) (rw (eq-eqb c d e) at k) in record { low = z.low; high = omega (arith, z.high); even = z.even }
       go (no e) = absurd (omega (arith, rw (ne_eqb c d e) at k))
 
-  in-once : (c o p : ℕ) (b : Block) → (index (shape w)) ≤ p → p % 8 ≡ 0 → times o (idle_in (shape w) c p b) ≤ 1
+  in_once : (c o p : ℕ) (b : Block) → (index (shape w)) ≤ p → p % 8 ≡ 0 → times o (idle_in (shape w) c p b) ≤ 1
   unfolding idle_in times
-  in-once c o p (free s) h m = omega arith
-  in-once c o p (used (variable s)) h m = omega arith
-  in-once c o p (used (page d j ss)) h m = go (eqb c d)
+  in_once c o p (free s) h m = omega arith
+  in_once c o p (used (variable s)) h m = omega arith
+  in_once c o p (used (page d j ss)) h m = go (eqb c d)
     where
       go : (t : Bool) → times o (cond t (idle_slots (shape w) d (p + w) ss) []) ≤ 1
       go true = slots_once d o (p + w) ss (omega arith) (first_even wd p m)
@@ -71,7 +71,7 @@ module _ {w : ℕ} (wd : Width w) where
   items_off c o p (b ∷ bs) a h m k = go (dec_le 1 (times o (idle_in (shape w) c p b))) (items_off c o (p + size_of (shape w) b) bs a.1 (omega arith) (omega (arith, (sizes wd b a.0).1)))
     where
       go : Dec (1 ≤ times o (idle_in (shape w) c p b)) → (1 ≤ times o (idle_items (shape w) c (p + size_of (shape w) b) bs) → Off w o (p + size_of (shape w) b + w) (ends (shape w) (p + size_of (shape w) b) bs)) → Off w o (p + w) (ends (shape w) (p + size_of (shape w) b) bs)
-      go (yes i) r = let z = in-off c o p b h m i in record { low = z.low; high = omega (arith, z.high, le_ends (shape w) (p + size_of (shape w) b) bs); even = z.even }
+      go (yes i) r = let z = in_off c o p b h m i in record { low = z.low; high = omega (arith, z.high, le_ends (shape w) (p + size_of (shape w) b) bs); even = z.even }
       go (no n) r = let z = r (omega (arith, times_append o (idle_in (shape w) c p b) (idle_items (shape w) c (p + size_of (shape w) b) bs))) in record { low = omega (arith, z.low); high = z.high; even = z.even }
 
   pub items_once : (c o p : ℕ) (bs : List Block) → AllAllowed (shape w) bs → (index (shape w)) ≤ p → p % 8 ≡ 0 → times o (idle_items (shape w) c p bs) ≤ 1
@@ -84,5 +84,5 @@ module _ {w : ℕ} (wd : Width w) where
 
       go : Dec (1 ≤ times o (idle_in (shape w) c p b)) → Dec (1 ≤ times o (idle_items (shape w) c (p + size_of (shape w) b) bs)) → times o (idle_items (shape w) c (p + size_of (shape w) b) bs) ≤ 1 → times o (idle_in (shape w) c p b ++ idle_items (shape w) c (p + size_of (shape w) b) bs) ≤ 1
       go (no n) d r = omega (arith, t)
-      go (yes i) (no n) r = omega (arith, t, in-once c o p b h m)
-      go (yes i) (yes j) r = absurd (omega (arith, (in-off c o p b h m i).high, (items_off c o (p + size_of (shape w) b) bs a.1 (omega arith) (omega (arith, (sizes wd b a.0).1)) j).low))
+      go (yes i) (no n) r = omega (arith, t, in_once c o p b h m)
+      go (yes i) (yes j) r = absurd (omega (arith, (in_off c o p b h m i).high, (items_off c o (p + size_of (shape w) b) bs a.1 (omega arith) (omega (arith, (sizes wd b a.0).1)) j).low))

@@ -54,18 +54,18 @@ module _ (S : Shape) where
   slots_some c p (held n ∷ ss) x (inl e) = omega (arith, ap (λ (y : Payload). y.size) e)
   slots_some c p (held n ∷ ss) x (inr h) = slots_some c (p + item_size S c) ss x h
 
-  use-some : (p : ℕ) (u : Use) → AllowedUse S u → (x : Payload) → x ∈ use_live S p u → 1 ≤ x.size
+  use_some : (p : ℕ) (u : Use) → AllowedUse S u → (x : Payload) → x ∈ use_live S p u → 1 ≤ x.size
   unfolding use_live AllowedUse ◌∈◌
-  use-some p (variable s) a x (inl e) = omega (arith, a.0, ap (λ (y : Payload). y.size) e)
-  use-some p (variable s) a x (inr h) = absurd h
-  use-some p (page c k ss) a x h = slots_some c (first_item_at S p) ss x h
+  use_some p (variable s) a x (inl e) = omega (arith, a.0, ap (λ (y : Payload). y.size) e)
+  use_some p (variable s) a x (inr h) = absurd h
+  use_some p (page c k ss) a x h = slots_some c (first_item_at S p) ss x h
 
   blocks_some : (p : ℕ) (bs : List Block) → AllAllowed S bs → (x : Payload) → x ∈ live_from S p bs → 1 ≤ x.size
   unfolding live_from AllAllowed Allowed ◌∈◌
   blocks_some p [] a x h = absurd h
   blocks_some p (free s ∷ bs) a x h = blocks_some (p + s) bs a.1 x h
   blocks_some p (used u ∷ bs) a x h =
-      ⊎_elim (λ k. use-some p u a.0 x k) (λ k. blocks_some (p + use_size S u) bs a.1 x k) (in_either x (use_live S p u) (live_from S (p + use_size S u) bs) h)
+      ⊎_elim (λ k. use_some p u a.0 x k) (λ k. blocks_some (p + use_size S u) bs a.1 x k) (in_either x (use_live S p u) (live_from S (p + use_size S u) bs) h)
 
   -- a list names what is live in a layout, each once
   pub record Names (order : List ℕ) (L : Layout) : Type 0 where

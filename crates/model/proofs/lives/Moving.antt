@@ -26,13 +26,13 @@ use Rattle.model.proofs.blocks.Blocks.{allowed_right}
 use Rattle.model.proofs.items.ItemPlaces.{no_block}
 
 -- of two that differ in a list one stands before the other
-in-turn : {A : Type 0} (x y : A) (zs : List A) → x ∈ zs → y ∈ zs → (x ≡ y → ⊥) → InTurn x y zs ⊎ InTurn y x zs
+in_turn_lem : {A : Type 0} (x y : A) (zs : List A) → x ∈ zs → y ∈ zs → (x ≡ y → ⊥) → InTurn x y zs ⊎ InTurn y x zs
 unfolding ◌∈◌ InTurn
-in-turn x y [] h k n = absurd h
-in-turn x y (z ∷ zs) (inl e) (inl f) n = absurd (n (e ∙ sym f))
-in-turn x y (z ∷ zs) (inl e) (inr k) n = inl (inl (e, k))
-in-turn x y (z ∷ zs) (inr h) (inl f) n = inr (inl (f, h))
-in-turn x y (z ∷ zs) (inr h) (inr k) n = ⊎_elim (λ i. inl (inr i)) (λ i. inr (inr i)) (in-turn x y zs h k n)
+in_turn_lem x y [] h k n = absurd h
+in_turn_lem x y (z ∷ zs) (inl e) (inl f) n = absurd (n (e ∙ sym f))
+in_turn_lem x y (z ∷ zs) (inl e) (inr k) n = inl (inl (e, k))
+in_turn_lem x y (z ∷ zs) (inr h) (inl f) n = inr (inl (f, h))
+in_turn_lem x y (z ∷ zs) (inr h) (inr k) n = ⊎_elim (λ i. inl (inr i)) (λ i. inr (inr i)) (in_turn_lem x y zs h k n)
 
 module _ (S : Shape) where
   -- the payload of what is found at a
@@ -53,7 +53,7 @@ module _ (S : Shape) where
       go : Dec (a ≡ address_of S p) → ((in_slots S a c (p + item_size S c) ss ≡ nothing → ⊥) → payload_of a (in_slots S a c (p + item_size S c) ss) ∈ slots_live S c (p + item_size S c) ss)
           → (in_slots S a c p (held m ∷ ss) ≡ nothing → ⊥) → payload_of a (in_slots S a c p (held m ∷ ss)) ∈ slots_live S c p (held m ∷ ss)
       go (yes e) r n = rw (eq-eqb a (address_of S p) e) (inl (ap (λ (x : ℕ). record { address = x; size = item_capacity S c; shown = item_shown S c m }) e))
-      go (no e) r n = rw (ne_eqb a (address_of S p) e) (inr (r (rw (ne_eqb a (address_of S p) e) at n)))
+      go (no e) r n = let q : in_slots S a c p (held m ∷ ss) ≡ in_slots S a c (p + item_size S c) ss = rw (ne_eqb a (address_of S p) e) refl in subst (λ (f : Found). payload_of a f ∈ slots_live S c p (held m ∷ ss)) (sym q) (inr (r (subst (λ (f : Found). f ≡ nothing → ⊥) q n)))
 
   -- what is found is live
   pub found_live : (a p : ℕ) (bs : List Block) → (find_from S a p bs ≡ nothing → ⊥) → payload_of a (find_from S a p bs) ∈ live_from S p bs
@@ -65,7 +65,7 @@ module _ (S : Shape) where
       go : Dec (a ≡ address_of S p) → ((find_from S a (p + s) bs ≡ nothing → ⊥) → payload_of a (find_from S a (p + s) bs) ∈ live_from S (p + s) bs)
           → (find_from S a p (used (variable s) ∷ bs) ≡ nothing → ⊥) → payload_of a (find_from S a p (used (variable s) ∷ bs)) ∈ live_from S p (used (variable s) ∷ bs)
       go (yes e) r n = rw (eq-eqb a (address_of S p) e) (inl (ap (λ (x : ℕ). record { address = x; size = s - tags S; shown = s - tags S }) e))
-      go (no e) r n = rw (ne_eqb a (address_of S p) e) (inr (behind_live a (used (variable s)) (live_from S (p + s) bs) (find_from S a (p + s) bs) r (rw (ne_eqb a (address_of S p) e) at n)))
+      go (no e) r n = let q : find_from S a p (used (variable s) ∷ bs) ≡ behind (used (variable s)) (find_from S a (p + s) bs) = rw (ne_eqb a (address_of S p) e) refl in subst (λ (f : Found). payload_of a f ∈ live_from S p (used (variable s) ∷ bs)) (sym q) (inr (behind_live a (used (variable s)) (live_from S (p + s) bs) (find_from S a (p + s) bs) r (subst (λ (f : Found). f ≡ nothing → ⊥) q n)))
   found_live a p (used (page c k ss) ∷ bs) n =
       go (in_slots S a c (p + S.word) ss) (slots_live_lem a c (p + S.word) ss) (behind_live a (used (page c k ss)) (live_from S (p + use_size S (page c k ss)) bs) (find_from S a (p + use_size S (page c k ss)) bs) (found_live a (p + use_size S (page c k ss)) bs)) n
     where
@@ -127,7 +127,7 @@ module _ (S : Shape) where
   pub live_apart : (end : ℕ) (L : Layout) → Valid S end L → (x y : Payload) → x ∈ live S L → y ∈ live S L → (x.address ≡ y.address → ⊥)
       → (x.address + x.size ≤ y.address) ⊎ (y.address + y.size ≤ x.address)
   live_apart end L v x y h k n =
-      ⊎_elim (λ t. inl (no_overlap S end L v x y t)) (λ t. inr (no_overlap S end L v y x t)) (in-turn x y (live S L) h k (λ e. n (ap (λ (z : Payload). z.address) e)))
+      ⊎_elim (λ t. inl (no_overlap S end L v x y t)) (λ t. inr (no_overlap S end L v y x t)) (in_turn_lem x y (live S L) h k (λ e. n (ap (λ (z : Payload). z.address) e)))
 
   -- THE LAW: bytes copied into a live payload leave the heap's layout
   pub copied_here : (b : List ℕ) (L : Layout) → Here S b L → (y : Payload) → y ∈ live S L → (from k : ℕ) → k ≤ y.size → from + k ≤ length b → Here S (copied from y.address k b) L

@@ -32,11 +32,11 @@ module _ (S : Shape) where
   slots_within c p (held n ∷ ss) x (inl e) = omega (arith, ap (λ (y : Payload). y.address) e, ap (λ (y : Payload). y.size) e)
   slots_within c p (held n ∷ ss) x (inr h) = let r = slots_within c (p + item_size S c) ss x h in (omega (arith, r.0), omega (arith, r.1))
 
-  use-within : (p : ℕ) (u : Use) → AllowedUse S u → (x : Payload) → x ∈ use_live S p u → Within (p + S.word) (p + use_size S u - S.word) x
+  use_within : (p : ℕ) (u : Use) → AllowedUse S u → (x : Payload) → x ∈ use_live S p u → Within (p + S.word) (p + use_size S u - S.word) x
   unfolding use_live use_size AllowedUse ◌∈◌
-  use-within p (variable s) a x (inl e) = omega (arith, a.0, ap (λ (y : Payload). y.address) e, ap (λ (y : Payload). y.size) e)
-  use-within p (variable s) a x (inr h) = absurd h
-  use-within p (page c k ss) a x h = let r = slots_within c (p + S.word) ss x h in (omega (arith, r.0), omega (arith, r.1))
+  use_within p (variable s) a x (inl e) = omega (arith, a.0, ap (λ (y : Payload). y.address) e, ap (λ (y : Payload). y.size) e)
+  use_within p (variable s) a x (inr h) = absurd h
+  use_within p (page c k ss) a x h = let r = slots_within c (p + S.word) ss x h in (omega (arith, r.0), omega (arith, r.1))
 
   -- a payload of blocks from p on lies behind the first tag, and before the last
   pub live_within : (p : ℕ) (bs : List Block) → AllAllowed S bs → (x : Payload) → x ∈ live_from S p bs → Within (p + S.word) (ends S p bs - S.word) x
@@ -45,7 +45,7 @@ module _ (S : Shape) where
   live_within p (free s ∷ bs) a x h = let r = live_within (p + s) bs a.1 x h in (omega (arith, r.0), r.1)
   live_within p (used u ∷ bs) a x h =
       ⊎_elim
-      (λ k. let r = use-within p u a.0 x k in (r.0, omega (arith, r.1, le_ends S (p + use_size S u) bs)))
+      (λ k. let r = use_within p u a.0 x k in (r.0, omega (arith, r.1, le_ends S (p + use_size S u) bs)))
       (λ k. let r = live_within (p + use_size S u) bs a.1 x k in (omega (arith, r.0), r.1))
       (in_either x (use_live S p u) (live_from S (p + use_size S u) bs) h)
 
@@ -63,20 +63,20 @@ module _ (S : Shape) where
       omega (arith, ap (λ (z : Payload). z.address) h.0, ap (λ (z : Payload). z.size) h.0, (slots_within c (p + item_size S c) ss y h.1).0)
   slots_apart c p (held n ∷ ss) x y (inr h) = slots_apart c (p + item_size S c) ss x y h
 
-  use-apart : (p : ℕ) (u : Use) (x y : Payload) → InTurn x y (use_live S p u) → x.address + x.size ≤ y.address
+  use_apart : (p : ℕ) (u : Use) (x y : Payload) → InTurn x y (use_live S p u) → x.address + x.size ≤ y.address
   unfolding use_live InTurn ◌∈◌
-  use-apart p (variable s) x y (inl h) = absurd h.1
-  use-apart p (variable s) x y (inr h) = absurd h
-  use-apart p (page c k ss) x y h = slots_apart c (p + S.word) ss x y h
+  use_apart p (variable s) x y (inl h) = absurd h.1
+  use_apart p (variable s) x y (inr h) = absurd h
+  use_apart p (page c k ss) x y h = slots_apart c (p + S.word) ss x y h
 
   blocks_apart : (p : ℕ) (bs : List Block) → AllAllowed S bs → (x y : Payload) → InTurn x y (live_from S p bs) → x.address + x.size ≤ y.address
   unfolding live_from AllAllowed Allowed InTurn
   blocks_apart p [] a x y h = absurd h
   blocks_apart p (free s ∷ bs) a x y h = blocks_apart (p + s) bs a.1 x y h
   blocks_apart p (used u ∷ bs) a x y h =
-      ⊎_elim (λ k. use-apart p u x y k)
+      ⊎_elim (λ k. use_apart p u x y k)
       (λ k. ⊎_elim
-      (λ j. omega (arith, (use-within p u a.0 x j.0).1, (live_within (p + use_size S u) bs a.1 y j.1).0))
+      (λ j. omega (arith, (use_within p u a.0 x j.0).1, (live_within (p + use_size S u) bs a.1 y j.1).0))
       (λ j. blocks_apart (p + use_size S u) bs a.1 x y j) k)
       (turn_either x y (use_live S p u) (live_from S (p + use_size S u) bs) h)
 
@@ -101,11 +101,11 @@ module _ (S : Shape) where
         )
     slots_clear c l p (held n ∷ ss) (inr h) = let r = slots_within c (p + item_size S c) ss x h in ((λ j k. omega (arith, r.0)), slots_clear c l (p + item_size S c) ss h)
 
-    use-clear : (ls : List (List ℕ)) (p : ℕ) (u : Use) → AllowedUse S u → x ∈ use_live S p u → Untouched (use_words S ls p u)
+    use_clear : (ls : List (List ℕ)) (p : ℕ) (u : Use) → AllowedUse S u → x ∈ use_live S p u → Untouched (use_words S ls p u)
     unfolding use_words use_size Clear
-    use-clear ls p (variable s) a h = let r = use-within p (variable s) a x h in ((λ j k. omega (arith, r.0)), ((λ j k. omega (arith, r.1)), tt))
-    use-clear ls p (page c k ss) a h =
-        let r = use-within p (page c k ss) a x h in (
+    use_clear ls p (variable s) a h = let r = use_within p (variable s) a x h in ((λ j k. omega (arith, r.0)), ((λ j k. omega (arith, r.1)), tt))
+    use_clear ls p (page c k ss) a h =
+        let r = use_within p (page c k ss) a x h in (
           (λ i j. omega (arith, r.0)),
           clear_append S.word x.address (x.address + x.size) (slot_words S c (get_or ls c []) (p + S.word) ss) (record { at = p + use_size S (page c k ss) - S.word; is = use_size S (page c k ss) + 3 } ∷ [])
               (slots_clear c (get_or ls c []) (p + S.word) ss (unfold use_live in h)) ((λ i j. omega (arith, r.1)), tt),
@@ -124,8 +124,8 @@ module _ (S : Shape) where
         let q = p + use_size S u in
         ⊎_elim
         (λ k.
-        let r = use-within p u a.0 x k in
-        clear_append S.word x.address (x.address + x.size) (use_words S ls p u) (block_words S ls q prev next bs) (use-clear ls p u a.0 k)
+        let r = use_within p u a.0 x k in
+        clear_append S.word x.address (x.address + x.size) (use_words S ls p u) (block_words S ls q prev next bs) (use_clear ls p u a.0 k)
         (rise_clear S.word x.address (x.address + x.size) q (block_words S ls q prev next bs) (ends S q bs) (rise_blocks S ls q prev next bs a.1) (λ i j. omega (arith, r.1))))
         (λ k.
         let r = live_within q bs a.1 x k in

@@ -105,7 +105,7 @@ module _ (S : Shape) where
     StayedAs end none = Unit {0}
     StayedAs end (some M) = Stayed end M
 
-    module _ {end : ℕ} (v : Valid S end L) (t : Spot) (is_Block : find S a L ≡ block t) (e : L.blocks ≡ t.pre ++ ((used (variable t.size) ∷ []) ++ t.post)) (at : a ≡ address_of S (ends S (start S) t.pre)) where
+    module _ {end : ℕ} (v : Valid S end L) (t : Spot) (is_block : find S a L ≡ block t) (e : L.blocks ≡ t.pre ++ ((used (variable t.size) ∷ []) ++ t.post)) (at : a ≡ address_of S (ends S (start S) t.pre)) where
       reshaped_stayed : (bs : List Block) (need : ℕ) → largest_item S < n → least_variable S ≤ need → n + tags S ≤ need → Reshapes t bs need → Stayed end (record { blocks = t.pre ++ bs; lists = L.lists })
       unfolding ◌∈◌
       reshaped_stayed bs need above big holds-it s =
@@ -143,7 +143,7 @@ module _ (S : Shape) where
             there = subst (λ (q : List Payload). y ∈ q) (sym m) (in_right y A (y ∷ C) (inl refl));
             at = sym at;
             large = omega (arith, s.large, holds-it);
-            shown = ⊎_elim (λ l. absurd (omega arith)) (λ i. absurd (subst IsItem is_Block i));
+            shown = ⊎_elim (λ l. absurd (omega arith)) (λ i. absurd (subst IsItem is_block i));
           }
 
   -- what a block's right side is allowed to be
@@ -275,14 +275,14 @@ module _ (S : Shape) where
         go nobody c e = alone s.post s.clear_right
         go (neighbour r) c e = beside r e c.1 (dec_le need (t.size + r))
 
-  module _ (n a : ℕ) {end : ℕ} {L : Layout} (v : Valid S end L) (t : Spot) (is_Block : find S a L ≡ block t) (e : L.blocks ≡ t.pre ++ ((used (variable t.size) ∷ []) ++ t.post)) (at : a ≡ address_of S (ends S (start S) t.pre)) where
+  module _ (n a : ℕ) {end : ℕ} {L : Layout} (v : Valid S end L) (t : Spot) (is_block : find S a L ≡ block t) (e : L.blocks ≡ t.pre ++ ((used (variable t.size) ∷ []) ++ t.post)) (at : a ≡ address_of S (ends S (start S) t.pre)) where
     big_stays : largest_item S < n → tags S % 8 ≡ 0 → t.size % 8 ≡ 0 → (s : Sides t) → SideAllowed s.right
         → StayedAs n a L end (reshaped S (need_of S n) t L (cond (leb (need_of S n) t.size) (some (shrunk S (need_of S n) t.size t.post)) (grown S (need_of S n) t.size t.post)))
     unfolding reshaped StayedAs ReshapesAs
     big_stays big te mine s all = go (dec_le (need_of S n) t.size)
       where
         there : (bs : List Block) → Reshapes t bs (need_of S n) → Stayed n a L end (record { blocks = t.pre ++ bs; lists = L.lists })
-        there bs r = reshaped_stayed n a L v t is_Block e at bs (need_of S n) big (omega (arith, up_above S.offered n big)) (omega arith) r
+        there bs r = reshaped_stayed n a L v t is_block e at bs (need_of S n) big (omega (arith, up_above S.offered n big)) (omega arith) r
 
         grows : (o : Option (List Block)) → ReshapesAs t (need_of S n) o → StayedAs n a L end (reshaped S (need_of S n) t L o)
         grows none r = tt

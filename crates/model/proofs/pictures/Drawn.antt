@@ -56,11 +56,11 @@ module _ (S : Shape) where
       go (yes e) r = omega arith
       go (no e) r = r (omega (arith, rw (ne_eqb o (offset_of S p) e) at h)) (omega arith)
 
-  in-below : (c o p : ℕ) (b : Block) → 1 ≤ times o (idle_in S c p b) → o ≤ p + size_of S b
+  in_below : (c o p : ℕ) (b : Block) → 1 ≤ times o (idle_in S c p b) → o ≤ p + size_of S b
   unfolding idle_in size_of use_size times
-  in-below c o p (free s) h = absurd (omega arith)
-  in-below c o p (used (variable s)) h = absurd (omega arith)
-  in-below c o p (used (page d k ss)) h = go (ℕ_discrete c d)
+  in_below c o p (free s) h = absurd (omega arith)
+  in_below c o p (used (variable s)) h = absurd (omega arith)
+  in_below c o p (used (page d k ss)) h = go (ℕ_discrete c d)
     where
       go : Dec (c ≡ d) → o ≤ p + (tags S + length ss * item_size S d + k)
       go (yes e) = slot_below d o (p + S.word) ss (p + (tags S + length ss * item_size S d + k)) (rw (eq-eqb c d e) at h) (omega arith)
@@ -72,7 +72,7 @@ module _ (S : Shape) where
   item_below c o p (b ∷ bs) h = go (dec_le 1 (times o (idle_in S c p b))) (item_below c o (p + size_of S b) bs)
     where
       go : Dec (1 ≤ times o (idle_in S c p b)) → (1 ≤ times o (idle_items S c (p + size_of S b) bs) → o ≤ ends S (p + size_of S b) bs) → o ≤ ends S (p + size_of S b) bs
-      go (yes e) r = omega (arith, in-below c o p b e, le_ends S (p + size_of S b) bs)
+      go (yes e) r = omega (arith, in_below c o p b e, le_ends S (p + size_of S b) bs)
       go (no e) r = r (omega (arith, times_append o (idle_in S c p b) (idle_items S c (p + size_of S b) bs)))
 
   -- a valid layout's lists name offsets within the heap

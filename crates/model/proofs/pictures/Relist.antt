@@ -35,10 +35,10 @@ module _ (S : Shape) where
         ap₂ (λ (n : ℕ) (l : List Word). record { at = p; is = free_header c n } ∷ l) (h (offset_of S p) (rw (eq-eqb (offset_of S p) (offset_of S p) refl) (omega arith))) (slots_relist c (p + item_size S c) ss (λ o k. h o (omega (arith, k))))
     slots_relist c p (held n ∷ ss) h = ap (λ (l : List Word). record { at = p; is = held_header c n } ∷ l) (slots_relist c (p + item_size S c) ss h)
 
-    use-relist : (p : ℕ) (u : Use) → ((d o : ℕ) → 1 ≤ times o (idle_in S d p (used u)) → next_of o (get_or ls' d []) ≡ next_of o (get_or ls d [])) → use_words S ls' p u ≡ use_words S ls p u
+    use_relist : (p : ℕ) (u : Use) → ((d o : ℕ) → 1 ≤ times o (idle_in S d p (used u)) → next_of o (get_or ls' d []) ≡ next_of o (get_or ls d [])) → use_words S ls' p u ≡ use_words S ls p u
     unfolding use_words idle_in
-    use-relist p (variable t) h = refl
-    use-relist p (page d k ss) h =
+    use_relist p (variable t) h = refl
+    use_relist p (page d k ss) h =
         let tail : List Word = record { at = p + use_size S (page d k ss) - S.word; is = use_size S (page d k ss) + 3 } ∷ [] in
         ap (λ (l : List Word). record { at = p; is = use_size S (page d k ss) + 3 } ∷ (l ++ tail)) (slots_relist d (p + S.word) ss (λ o i. h d o (rw (eq-eqb d d refl) i)))
 
@@ -47,7 +47,7 @@ module _ (S : Shape) where
     relist p prev next [] h = refl
     relist p prev next (free t ∷ bs) h = ap (λ (l : List Word). own S ls p prev (first_free S (p + t) bs next) (free t) ++ l) (relist (p + t) p next bs (λ d o. unfold idle_in in h d o))
     relist p prev next (used u ∷ bs) h =
-        rw (use-relist p u (λ d o i. h d o (omega (arith, i, times_append o (idle_in S d p (used u)) (idle_items S d (p + use_size S u) bs)))))
+        rw (use_relist p u (λ d o i. h d o (omega (arith, i, times_append o (idle_in S d p (used u)) (idle_items S d (p + use_size S u) bs)))))
         (ap (λ (l : List Word). use_words S ls p u ++ l) (relist (p + use_size S u) prev next bs (λ d o i. h d o (omega (arith, i, times_append o (idle_in S d p (used u)) (idle_items S d (p + use_size S u) bs))))))
 
   module _ (good : Good S) (end : ℕ) (L : Layout) (v : Tiled S end L) (c : ℕ) (cl : c < S.classes) (l : List ℕ) where

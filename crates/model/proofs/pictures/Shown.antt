@@ -36,10 +36,10 @@ module _ (S : Shape) (b : List ℕ) where
         go (yes e) r = let z : item_at S (offset_of S p) ≡ p = omega arith in rw (e, z) s.0
         go (no e) r = r (omega (arith, rw (ne_eqb o (offset_of S p) e) at k))
 
-    use-read : (c o p : ℕ) (u : Use) → index S ≤ p → Shows S.word b (use_words S ls p u) → 1 ≤ times o (idle_in S c p (used u)) → Says c o
+    use_read : (c o p : ℕ) (u : Use) → index S ≤ p → Shows S.word b (use_words S ls p u) → 1 ≤ times o (idle_in S c p (used u)) → Says c o
     unfolding use_words idle_in Shows
-    use-read c o p (variable t) h s k = absurd (unfold times in omega arith)
-    use-read c o p (page d j ss) h s k = go (ℕ_discrete c d)
+    use_read c o p (variable t) h s k = absurd (unfold times in omega arith)
+    use_read c o p (page d j ss) h s k = go (ℕ_discrete c d)
       where
         go : Dec (c ≡ d) → Says c o
         go (no e) = absurd (unfold times in omega (arith, rw (ne_eqb c d e) at k))
@@ -59,7 +59,7 @@ module _ (S : Shape) (b : List ℕ) where
         (blocks_read c o (p + use_size S u) prev bs (omega arith) (shows_right S.word b (use_words S ls p u) (block_words S ls (p + use_size S u) prev 0 bs) s))
       where
         go : Dec (1 ≤ times o (idle_in S c p (used u))) → (1 ≤ times o (idle_items S c (p + use_size S u) bs) → Says c o) → Says c o
-        go (yes i) r = use-read c o p u h (shows_left S.word b (use_words S ls p u) (block_words S ls (p + use_size S u) prev 0 bs) s) i
+        go (yes i) r = use_read c o p u h (shows_left S.word b (use_words S ls p u) (block_words S ls (p + use_size S u) prev 0 bs) s) i
         go (no n) r = r (omega (arith, times_append o (idle_in S c p (used u)) (idle_items S c (p + use_size S u) bs)))
 
   pub blocks_in : (end : ℕ) (L : Layout) → Shows S.word b (words S end L) → Shows S.word b (block_words S L.lists (start S) 0 0 L.blocks)

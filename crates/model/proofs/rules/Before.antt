@@ -52,15 +52,15 @@ module _ (S : Shape) where
   slot_words_lem c l p [] = refl
   slot_words_lem c l p (s ∷ ss) = ap₂ (λ (x : ℕ) (ws : List Word). record { at = p; is = x } ∷ ws) (header_is c l p s) (slot_words_lem c l (p + item_size S c) ss)
 
-  use-words : (ls : List (List ℕ)) (p : ℕ) (u : Use) → use_words T ls p u ≡ use_words S ls p u
+  use_words_lem : (ls : List (List ℕ)) (p : ℕ) (u : Use) → use_words T ls p u ≡ use_words S ls p u
   unfolding use_words
-  use-words ls p (variable s) = refl
-  use-words ls p (page c k ss) = rw (use_size_lem (page c k ss), slot_words_lem c (get_or ls c []) (first_item_at S p) ss) refl
+  use_words_lem ls p (variable s) = refl
+  use_words_lem ls p (page c k ss) = rw (use_size_lem (page c k ss), slot_words_lem c (get_or ls c []) (first_item_at S p) ss) refl
 
   own_words : (ls : List (List ℕ)) (p prev next : ℕ) (b : Block) → own T ls p prev next b ≡ own S ls p prev next b
   unfolding own
   own_words ls p prev next (free s) = refl
-  own_words ls p prev next (used u) = use-words ls p u
+  own_words ls p prev next (used u) = use_words_lem ls p u
 
   block_words_lem : (ls : List (List ℕ)) (p prev next : ℕ) (bs : List Block) → block_words T ls p prev next bs ≡ block_words S ls p prev next bs
   unfolding block_words
@@ -79,16 +79,16 @@ module _ (S : Shape) where
   all_words end L = rw (first_free_lem (start S) L.blocks 0, head_words_lem (index S) L.lists, block_words_lem L.lists (start S) 0 0 L.blocks) refl
 
   -- what is allowed, and what is free
-  use-allowed : S.offered ≤ S.classes → (u : Use) → AllowedUse T u → AllowedUse S u
+  use_allowed : S.offered ≤ S.classes → (u : Use) → AllowedUse T u → AllowedUse S u
   unfolding AllowedUse
-  use-allowed o (variable s) a = (omega (arith, o, a.0), a.1)
-  use-allowed o (page c k ss) a = a
+  use_allowed o (variable s) a = (omega (arith, o, a.0), a.1)
+  use_allowed o (page c k ss) a = a
 
   all_allowed : S.offered ≤ S.classes → (bs : List Block) → AllAllowed T bs → AllAllowed S bs
   unfolding AllAllowed Allowed
   all_allowed o [] a = tt
   all_allowed o (free s ∷ bs) a = (a.0, all_allowed o bs a.1)
-  all_allowed o (used u ∷ bs) a = (use-allowed o u a.0, all_allowed o bs a.1)
+  all_allowed o (used u ∷ bs) a = (use_allowed o u a.0, all_allowed o bs a.1)
 
   idle_slots_lem : (c p : ℕ) (ss : List Slot) → idle_slots T c p ss ≡ idle_slots S c p ss
   unfolding idle_slots
@@ -114,16 +114,16 @@ module _ (S : Shape) where
   slots_live_lem c p (idle ∷ ss) = slots_live_lem c (p + item_size S c) ss
   slots_live_lem c p (held n ∷ ss) = ap (λ (l : List Payload). record { address = address_of S p; size = item_capacity S c; shown = item_shown S c n } ∷ l) (slots_live_lem c (p + item_size S c) ss)
 
-  use-live : (p : ℕ) (u : Use) → use_live T p u ≡ use_live S p u
+  use_live_lem : (p : ℕ) (u : Use) → use_live T p u ≡ use_live S p u
   unfolding use_live
-  use-live p (variable s) = refl
-  use-live p (page c k ss) = slots_live_lem c (first_item_at S p) ss
+  use_live_lem p (variable s) = refl
+  use_live_lem p (page c k ss) = slots_live_lem c (first_item_at S p) ss
 
   live_from_lem : (p : ℕ) (bs : List Block) → live_from T p bs ≡ live_from S p bs
   unfolding live_from
   live_from_lem p [] = refl
   live_from_lem p (free s ∷ bs) = live_from_lem (p + s) bs
-  live_from_lem p (used u ∷ bs) = rw (use_size_lem u) (ap₂ (λ (x y : List Payload). x ++ y) (use-live p u) (live_from_lem (p + use_size S u) bs))
+  live_from_lem p (used u ∷ bs) = rw (use_size_lem u) (ap₂ (λ (x y : List Payload). x ++ y) (use_live_lem p u) (live_from_lem (p + use_size S u) bs))
 
   -- THE LAW
   module _ (good : Good S) where
@@ -145,11 +145,11 @@ module _ (S : Shape) where
           shown = subst (λ (ws : List Word). Shows S.word b ws) (all_words (end_of (length b)) L) h.shown;
         }
 
-    in-before : (b : List ℕ) (L : Layout) → HereIn T b L → HereIn S b L
-    in-before b L h = record { ended = h.ended; here = here_before (heap_of S b) L h.here }
+    in_before : (b : List ℕ) (L : Layout) → HereIn T b L → HereIn S b L
+    in_before b L h = record { ended = h.ended; here = here_before (heap_of S b) L h.here }
 
     pub layout_before_lem : LayoutBefore S
-    layout_before_lem b L h = (in-before b L h, live_from_lem (start S) L.blocks)
+    layout_before_lem b L h = (in_before b L h, live_from_lem (start S) L.blocks)
 
     pub sound_before : SoundBefore S
-    sound_before b s = record { layout = s.layout; here = in-before b s.layout s.here }
+    sound_before b s = record { layout = s.layout; here = in_before b s.layout s.here }

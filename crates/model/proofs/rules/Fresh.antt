@@ -13,7 +13,7 @@ use Rattle.model.specs.Rules.{fresh}
 use Rattle.model.specs.Sound.{times, Allowed, AllAllowed, Apart, idle_in, idle_items, Valid, Here}
 use Rattle.model.proofs.Good.{shape_good}
 use Rattle.model.proofs.pictures.Drawn.{drawn_here}
-use Rattle.model.proofs.Sizes.{start_eight, words_fit}
+use Rattle.model.proofs.Sizes.{start_eight}
 
 pub fresh_valid : (S : Shape) (end : ℕ) → start S + least_free S ≤ end → (end - start S) % 8 ≡ 0 → Valid S end (fresh S end)
 unfolding ends size_of AllAllowed Allowed Apart idle_items idle_in

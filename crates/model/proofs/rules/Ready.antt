@@ -105,7 +105,7 @@ module _ {w : ℕ} (wd : Width w) where
         }
 
     -- on those of the heap that has grown
-    module _ (n : ℕ) (one : 1 ≤ n) (None-found : allocate (shape w) n L ≡ none) (room : end_in (shape w) (longer (shape w) n L) ≤ end_of (length b)) where
+    module _ (n : ℕ) (one : 1 ≤ n) (none_found : allocate (shape w) n L ≡ none) (room : end_in (shape w) (longer (shape w) n L) ≤ end_of (length b)) where
       abbrev G : Layout
       G = longer (shape w) n L
 
@@ -119,7 +119,7 @@ module _ {w : ℕ} (wd : Width w) where
       grown_valid = longer_valid wd n one e L was
 
       further : e < to
-      further = longer_further wd n one e L was None-found
+      further = longer_further wd n one e L was none_found
 
       grown_eight : to % 8 ≡ 0
       grown_eight = longer_eight wd n one e L was x.ended.2

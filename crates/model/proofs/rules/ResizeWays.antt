@@ -145,9 +145,9 @@ module _ (S : Shape) (b : List ℕ) (a n : ℕ) (L : Layout) where
   by_there v i = found_there (find S a L) i (refused b not_live) (one_way S v b a n L)
 
   -- resize is its ways in turn, whatever is found
-  in-turn : resized S b a n L ≡ or_next (resized_by S staying b a n L) (or_next (resized_by S moving b a n L) (resized_by S keeping b a n L))
+  in_turn_lem : resized S b a n L ≡ or_next (resized_by S staying b a n L) (or_next (resized_by S moving b a n L) (resized_by S keeping b a n L))
   unfolding resized resized_by
-  in-turn = go (find S a L)
+  in_turn_lem = go (find S a L)
     where
       go : (f : Found) → found S f (refused b not_live) (or_next (one_way S staying b a n L) (or_next (one_way S moving b a n L) (one_way S keeping b a n L)))
           ≡ or_next (found S f (refused b not_live) (one_way S staying b a n L)) (or_next (found S f (refused b not_live) (one_way S moving b a n L)) (found S f (refused b not_live) (one_way S keeping b a n L)))
@@ -202,7 +202,7 @@ module _ (S : Shape) (b : List ℕ) (a n : ℕ) (L : Layout) where
         let k = by_shut keeping in
         let x = next_six (resized_by S staying b a n L) (or_next (resized_by S moving b a n L) (resized_by S keeping b a n L)) in
         let y = next_six (resized_by S moving b a n L) (resized_by S keeping b a n L) in
-        rw in-turn (
+        rw in_turn_lem (
           (λ e. let p = x.0 e in let q = y.0 p.1 in (s.0 p.0, m.0 q.0, k.0 q.1)),
           (λ e. x.1 (s.1 e.0, y.1 (m.1 e.1, k.1 e.2))),
         )
@@ -235,7 +235,7 @@ module _ (S : Shape) (b : List ℕ) (a n : ℕ) (L : Layout) where
     where
       go : (y : Bool) → cond y (resized S b a n L) (refused b bad_size)
           ≡ or_next (cond y (resized_by S staying b a n L) (refused b bad_size)) (or_next (cond y (resized_by S moving b a n L) (refused b bad_size)) (cond y (resized_by S keeping b a n L) (refused b bad_size)))
-      go true = in-turn
+      go true = in_turn_lem
       go false = refl
 
 -- THE SPLIT: trying the ways one after the other, each as a call by itself, gives what resize gives

@@ -1,5 +1,5 @@
 -- Free blocks and items as inner calls link them. Contracts of inner calls name these; no public contract does, so no reader has to believe them.
-use Rattle.std.specs.Prelude.{ℕ, zero, suc, ◌+◌, ◌-◌, ◌*◌, cond, List, [], ◌∷◌, eqb, leb, ltb}
+use Rattle.std.specs.Prelude.{ℕ, zero, suc, ◌+◌, cond, List, [], ◌∷◌, eqb, leb, ltb}
 use Rattle.words.specs.Word.{word_at, put}
 use Rattle.model.specs.Shape.{Shape, least_free, item_size, offset_of}
 use Rattle.model.specs.Parts.{first_free_at, next_at, previous_at, free_header, free_mark}

@@ -1,0 +1,5 @@
+use Rattle.numbering.proofs.Telling.{told}
+use Rattle.numbering.proofs.initialise.Goals as goal
+
+pub returns : goal.returns
+returns c = told _ c.initialise.result _ _ c.initialise.ensures c.number.ensures

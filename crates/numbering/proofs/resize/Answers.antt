@@ -1,0 +1,5 @@
+use Rattle.numbering.proofs.Telling.{told}
+use Rattle.numbering.proofs.resize.Goals as goal
+
+pub returns : goal.returns
+returns c = told _ c.resize.result _ _ c.resize.ensures c.number.ensures

@@ -1,0 +1,7 @@
+use Rattle.words.specs.Bits.{bit_at}
+use mathlib.Core.Path.{refl}
+use Rattle.words.proofs.bits.test.Goals as goal
+
+pub returns : goal.returns
+unfolding bit_at
+returns c = rw c.word_of-w.ensures refl
