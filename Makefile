@@ -8,16 +8,18 @@ SHOWN ?= 200
 SEED ?= 1
 # install: where to.
 PREFIX ?= /usr/local
-# Set by the gate, where `make products` has been: then no target calls `rt`, and the comparisons can run side by side.
+CFLAGS ?= -O2 -Wall -Wextra -Werror
+# Set by the gate, where all products are there: then no target calls `rt`, and the comparisons can run side by side.
 BUILT ?=
 
 # A library for C each, with its header and its pkg-config file: the console's heap, and the hand unit's.
 LIBRARIES = jagwibodu jagwibodu_hand
-LIBRARY = target/staticlib/libjagwibodu.a
-HAND_LIBRARY = target/staticlib/libjagwibodu_hand.a
+archive = crates/$(1)/out/lib$(1).a
+LIBRARY = $(call archive,jagwibodu)
+HAND_LIBRARY = $(call archive,jagwibodu_hand)
 VERSION = $(shell sed -n 's/.*JAGWIBODU_VERSION "\(.*\)".*/\1/p' include/jagwibodu_answer.h)
 
-.PHONY: help test run show ask inputs same-inputs lib products install files example compare compare-hand compare-ask compare-show compare-twin compare-twin-hand bench
+.PHONY: help test run show ask inputs same-inputs lib archives install files example compare compare-hand compare-ask compare-show compare-twin compare-twin-hand bench
 
 help:
 	@echo 'make run      proves the call-list program and runs it on an example (LIST=file: on that list)'
@@ -35,11 +37,15 @@ test:
 
 # The program $(1) is proved with all that it stands on, which is told crate by crate, and then runs on the file $(2).
 define proved-and-run
-	@mkdir -p target
-	@echo 'proving $(1) and what it stands on (some minutes the first time)'
-	@{ rt check $(1) 2>&1 || echo 'rt: failed'; } | tee target/$(1).log | sed -un '/^rt: .* proved/p'
-	@if tail -n 1 target/$(1).log | grep -q '^rt: ok'; then tools/chost -r target/bin/$(1) < $(2); else cat target/$(1).log; exit 1; fi
+	@mkdir -p out
+	@echo 'proving $(1) and what it stands on (some minutes the first time)' >&2
+	@exec 3>&1; { (cd crates/$(1) && rt run 2>&1 >&3) < $(2) || echo 'rt: failed'; } | tee out/$(1).log | sed -un 's/^rt: chose --jobs [0-9]* for /rt: proving /p' >&2
+	@if tail -n 1 out/$(1).log | grep -q '^rt: failed'; then cat out/$(1).log >&2; exit 1; fi
 endef
+
+# The program $(1) is proved and built, as crates/$(1)/out/$(1); for that it runs on its example.
+proved = $(if $(BUILT),,cd crates/$(1) && rt run < stdin > /dev/null)
+program = crates/$(1)/out/$(1)
 
 # The call-list program, on document 01's example or on the list that LIST names.
 run:
@@ -63,16 +69,16 @@ inputs:
 
 # The files in crates/ are what that makes.
 same-inputs:
-	$(MAKE) --no-print-directory inputs INPUTS=target/inputs
-	for file in longcalls/stdin longcalls/stdout show/stdin show/stdout ask/stdin ask/stdout; do cmp target/inputs/$$file crates/$$file || exit 1; done
+	$(MAKE) --no-print-directory inputs INPUTS=out/inputs
+	for file in longcalls/stdin longcalls/stdout show/stdin show/stdout ask/stdin ask/stdout; do cmp out/inputs/$$file crates/$$file || exit 1; done
 
-# The archives for C, in target/staticlib. Two widths in one would make the word size a variable of every call.
+# The archives for C. Two widths in one would make the word size a variable of every call.
 lib:
-	$(if $(BUILT),,for name in $(LIBRARIES); do rt staticlib $$name || exit 1; done)
+	$(if $(BUILT),,for name in $(LIBRARIES); do (cd crates/$$name && rt lib) || exit 1; done)
 
-# All that the comparisons and the examples run on.
-products: lib
-	rt check ask show
+# The same over the libraries that `rt ci` left in a clean clone, for the gate.
+archives:
+	for name in $(LIBRARIES); do tools/archive $$name || exit 1; done
 
 # Headers, archives and pkg-config files, where such things go; files: of the archives that are there.
 install: lib
@@ -80,7 +86,7 @@ install: lib
 files:
 	install -d $(PREFIX)/include $(PREFIX)/lib/pkgconfig
 	install -m 644 $(LIBRARIES:%=include/%.h) include/jagwibodu_answer.h $(PREFIX)/include
-	install -m 644 $(LIBRARIES:%=target/staticlib/lib%.a) $(PREFIX)/lib
+	install -m 644 $(foreach name,$(LIBRARIES),$(call archive,$(name))) $(PREFIX)/lib
 	for name in $(LIBRARIES); do sed 's|@PREFIX@|$(abspath $(PREFIX))|; s|@VERSION@|$(VERSION)|' include/$$name.pc.in > $(PREFIX)/lib/pkgconfig/$$name.pc || exit 1; done
 
 # The example hosts in C, built with what install gives; the console's on a heap that begins small and grows, told by `show`, and in a
@@ -89,24 +95,27 @@ files:
 # once, of which both tell that nothing is left between them; the handset that takes over the console's records, told by `show` too; and
 # the upgrade, on a heap from before classes were closed, of which both tell how an old page leaves.
 # The pkg-config files lead to headers and archives, and all are C++ too.
-INSTALLED = target/installed
+INSTALLED = out/installed
+HOST = $(CC) $(CFLAGS) -I$(INSTALLED)/include
 EXAMPLES = console remark editor morning lists handset
 TOLD = console-heap morning-before morning-after lists-heap handset-heap upgrade-old upgrade-before upgrade-after
 example: lib
-	$(if $(BUILT),,rt check show)
+	$(call proved,show)
 	$(MAKE) --no-print-directory files PREFIX=$(INSTALLED)
-	for name in $(EXAMPLES); do CFLAGS='-I$(INSTALLED)/include' tools/chost examples/$$name.c $(LIBRARIES:%=$(INSTALLED)/lib/lib%.a) > target/$$name.out && diff examples/$$name.out target/$$name.out && cat target/$$name.out || exit 1; done
-	CFLAGS='-I$(INSTALLED)/include -DLENGTH=4500' tools/chost examples/console.c $(INSTALLED)/lib/libjagwibodu.a > target/console-small.out
-	diff examples/console-small.out target/console-small.out
-	CFLAGS='-I$(INSTALLED)/include' tools/chost examples/console.c $(INSTALLED)/lib/libjagwibodu.a -- target/console-heap.heap > target/console.out
-	CFLAGS='-I$(INSTALLED)/include' tools/chost examples/morning.c $(INSTALLED)/lib/libjagwibodu.a -- target/morning-before.heap target/morning-after.heap > target/morning.out
-	CFLAGS='-I$(INSTALLED)/include' tools/chost examples/lists.c $(INSTALLED)/lib/libjagwibodu.a -- target/lists-heap.heap > target/lists.out
-	CFLAGS='-I$(INSTALLED)/include' tools/chost examples/handset.c $(LIBRARIES:%=$(INSTALLED)/lib/lib%.a) -- target/handset-heap.heap > target/handset.out
-	python3 compare/former.py target/upgrade-old.heap
-	CFLAGS='-I$(INSTALLED)/include' tools/chost examples/upgrade.c $(INSTALLED)/lib/libjagwibodu.a -- target/upgrade-old.heap target/upgrade-before.heap target/upgrade-after.heap > target/upgrade.out
-	diff examples/upgrade.out target/upgrade.out
-	cat target/upgrade.out
-	for heap in $(TOLD); do tools/chost -r target/bin/show < target/$$heap.heap | diff examples/$$heap.out - && python3 compare/report.py target/$$heap.heap | diff examples/$$heap.out - || exit 1; done
+	for name in $(EXAMPLES); do $(HOST) -o out/$$name examples/$$name.c $(LIBRARIES:%=$(INSTALLED)/lib/lib%.a) && out/$$name > out/$$name.out && diff examples/$$name.out out/$$name.out && cat out/$$name.out || exit 1; done
+	$(HOST) -DLENGTH=4500 -o out/console-small examples/console.c $(INSTALLED)/lib/libjagwibodu.a
+	out/console-small > out/console-small.out
+	diff examples/console-small.out out/console-small.out
+	out/console out/console-heap.heap > out/console.out
+	out/morning out/morning-before.heap out/morning-after.heap > out/morning.out
+	out/lists out/lists-heap.heap > out/lists.out
+	out/handset out/handset-heap.heap > out/handset.out
+	python3 compare/former.py out/upgrade-old.heap
+	$(HOST) -o out/upgrade examples/upgrade.c $(INSTALLED)/lib/libjagwibodu.a
+	out/upgrade out/upgrade-old.heap out/upgrade-before.heap out/upgrade-after.heap > out/upgrade.out
+	diff examples/upgrade.out out/upgrade.out
+	cat out/upgrade.out
+	for heap in $(TOLD); do $(call program,show) < out/$$heap.heap | diff examples/$$heap.out - && python3 compare/report.py out/$$heap.heap | diff examples/$$heap.out - || exit 1; done
 	if command -v pkg-config > /dev/null; then for name in $(LIBRARIES); do PKG_CONFIG_PATH=$(INSTALLED)/lib/pkgconfig pkg-config --cflags --libs $$name | grep -q "^-I$(abspath $(INSTALLED))/include -L$(abspath $(INSTALLED))/lib -l$$name *\$$" || exit 1; done; fi
 	if command -v c++ > /dev/null; then c++ -std=c++11 -Wall -Wextra -Werror -fsyntax-only -x c++ -I$(INSTALLED)/include $(wildcard examples/*.c); fi
 
@@ -121,13 +130,15 @@ compare-hand: lib
 
 # Every call that reads, and the report, on random heaps, damaged ones, and bytes that are none, against the second program's.
 compare-ask:
-	$(if $(BUILT),,rt check ask)
-	python3 compare/answers.py $(ASKED) $(SEED) tools/chost -r target/bin/ask
+	$(call proved,ask)
+	mkdir -p out
+	python3 compare/answers.py $(ASKED) $(SEED) $(call program,ask)
 
 # The report program itself, a start a heap; compare-ask has many more of the same reports from a single start.
 compare-show:
-	$(if $(BUILT),,rt check show)
-	python3 compare/reports.py $(SHOWN) $(SEED) $$(tools/chost -w target/bin/show)
+	$(call proved,show)
+	mkdir -p out
+	python3 compare/reports.py $(SHOWN) $(SEED) $(call program,show)
 
 # The twin that bench measures against must itself be right.
 compare-twin:

@@ -1,5 +1,6 @@
-/* Does one call on a heap, once by the library and once by the twin, between marks that icount counts:
-   region 0 is ours, region 1 is the twin's. Both must answer alike and leave the same bytes.
+/* Does one call on a heap, once by the library and once by the twin, and has valgrind's callgrind dump what it counted of
+   each: first of nothing, so that it is known what counting takes, then of ours, then of the twin's. Both must answer
+   alike and leave the same bytes.
      bench HEAP-FILE CALL ADDRESS SIZE      (a number that the call does not take is 0; initialise: SIZE is the end)
    As the twin's words are, so is the library: the console's, or the hand unit's. */
 #include "twin.h"
@@ -13,11 +14,11 @@
 #define OPEN(call, h, end) call(h, length)
 #endif
 
-#include <count.h>
 #include <stdint.h>
 #include <stdio.h>
 #include <stdlib.h>
 #include <string.h>
+#include <valgrind/callgrind.h>
 
 #define LONGEST 1048576
 
@@ -49,24 +50,38 @@ static void refresh(void)
     memcpy(twins, image, length);
 }
 
-#define MEASURE(region, answer, call) \
-    do {                              \
-        COUNT_BEGIN(region);          \
-        uint64_t counted = (call);    \
-        COUNT_HIDE(counted);          \
-        COUNT_END(region);            \
-        (answer) = counted;           \
+/* Functions of their own, so that they take the same instructions at each place. */
+static __attribute__((noinline)) void begin_count(void)
+{
+    CALLGRIND_ZERO_STATS;
+}
+
+static __attribute__((noinline)) void end_count(void)
+{
+    CALLGRIND_DUMP_STATS;
+}
+
+/* The compiler takes the answer as used before the count ends, at no instruction's cost. */
+#define MEASURE(answer, call)                               \
+    do {                                                    \
+        begin_count();                                      \
+        uint64_t counted = (call);                          \
+        __asm__ volatile("" : "+r"(counted) : : "memory");  \
+        end_count();                                        \
+        (answer) = counted;                                 \
     } while (0)
 
 /* The first round is not counted: in it the loader finds the functions of the C library. */
-#define BOTH(our_call, twin_call)           \
-    do {                                    \
-        refresh();                          \
-        our_answer = (our_call);            \
-        twin_answer = (twin_call);          \
-        refresh();                          \
-        MEASURE(0, our_answer, our_call);   \
-        MEASURE(1, twin_answer, twin_call); \
+#define BOTH(our_call, twin_call)        \
+    do {                                 \
+        refresh();                       \
+        our_answer = (our_call);         \
+        twin_answer = (twin_call);       \
+        refresh();                       \
+        begin_count();                   \
+        end_count();                     \
+        MEASURE(our_answer, our_call);   \
+        MEASURE(twin_answer, twin_call); \
     } while (0)
 
 static void measure(const char *call, uint64_t address, uint64_t size)

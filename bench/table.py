@@ -9,7 +9,7 @@ Prints a Markdown table, how each count grows with the heap, the library's size,
 what a sweep costs against a check and how it grows, and last the worst ratios, of
 calls that grow the heap, of sweeps and of all others, beyond what is let pass of
 the hand unit's; the status is 1 if one of these is over its limit.
-All that is built or fetched goes below target/. "--prefix twin_" without a
+Needs valgrind. All that is built goes below out/. "--prefix twin_" without a
 library puts the twin on both sides.
 """
 
@@ -19,13 +19,19 @@ import os
 import random
 import subprocess
 import sys
+import tempfile
+from concurrent.futures import ThreadPoolExecutor
 
 ROOT = os.path.dirname(os.path.dirname(os.path.abspath(__file__)))
 sys.path.insert(0, os.path.join(ROOT, "compare"))
-sys.dont_write_bytecode = True  # products belong below target/
+sys.dont_write_bytecode = True  # products belong below out/
 from second import BEFORE, GRANTED, HAND, NO_ROOM, SHAPES, VARIABLE, WIDE, Heap, end_of  # noqa: E402
 
-PRODUCTS = os.path.join(ROOT, "target", "bench")
+PRODUCTS = os.path.join(ROOT, "out", "bench")
+# LLVM compiles the library, and so the twin.
+CC = (*os.environ.get("TWIN_CC", "clang").split(), "-O3", "-Wall", "-Wextra", "-Werror")
+# The C library then takes the same memset and memcpy on every processor.
+SAME_EVERYWHERE = {"GLIBC_TUNABLES": "glibc.cpu.hwcaps=-AVX,-AVX2,-ERMS,-FSRM,-SSSE3"}
 CALLS = ("initialise", "check", "allocate", "resize", "resize_in_place", "move", "free", "sweep")
 SIZES = {WIDE: (10000, 65536, 1048576), HAND: (1000, 10000, 65536)}
 OWN_PREFIX = {WIDE: "jagwibodu_", HAND: "jagwibodu_hand_"}
@@ -396,26 +402,28 @@ def twin_limit(name):
 def build(shape, libraries, prefix):
     program = os.path.join(PRODUCTS, f"bench-{shape.name}")
     # the twin touches each page of its stack, as the library does
-    flags = " ".join(("-fstack-clash-protection", f"-DTWIN_WORD={shape.word}",
-                      *(f"-D{OWN_PREFIX[shape]}{name}={prefix}{name}" for name in CALLS)))
+    flags = ("-fstack-clash-protection", f"-DTWIN_WORD={shape.word}",
+             *(f"-D{OWN_PREFIX[shape]}{name}={prefix}{name}" for name in CALLS))
     sources = [os.path.join(ROOT, "bench", name) for name in ("bench.c", "twin.c")]
-    subprocess.run([os.path.join(ROOT, "tools", "chost"), "-o", program, *sources, *libraries], check=True,
-                   env=dict(os.environ, CFLAGS=flags))
+    subprocess.run([*CC, *flags, "-o", program, *sources, *libraries], check=True)
     return program
 
 
 def count(program, path, call, address, size):
     """The instructions of ours and of the twin."""
-    counted = os.path.join(PRODUCTS, "counted")
-    keep = os.environ.get("ICOUNT_DIR", os.path.join(ROOT, "target", "icount"))
-    subprocess.run([os.path.join(ROOT, "tools", "icount"), "-o", counted, program, path, call, str(address), str(size)],
-                   check=True, stdout=subprocess.DEVNULL, env=dict(os.environ, ICOUNT_DIR=keep))
-    regions = {}
-    with open(counted, encoding="ascii") as file:
-        for words in map(str.split, file):
-            if words[0] == "region":
-                regions[int(words[1])] = int(words[5])
-    return regions[0], regions[1]
+    with tempfile.TemporaryDirectory(dir=PRODUCTS) as room:
+        counted = os.path.join(room, "counted")
+        subprocess.run(["valgrind", "-q", "--tool=callgrind", f"--callgrind-out-file={counted}",
+                        program, path, call, str(address), str(size)],
+                       check=True, stdout=subprocess.DEVNULL, env=os.environ | SAME_EVERYWHERE)
+        nothing, ours, twins = (instructions(f"{counted}.{dump}") for dump in (1, 2, 3))
+    return ours - nothing, twins - nothing
+
+
+def instructions(path):
+    """All that were counted up to this dump of callgrind's, since the one before."""
+    with open(path, encoding="utf-8") as file:
+        return next(int(line.split()[1]) for line in file if line.startswith("summary:"))
 
 
 def saved(name, data):
@@ -433,8 +441,12 @@ def rows(program, shape, sizes):
         for kind, make in kinds(shape).items():
             heap = make(shape, length)
             path = saved(f"{shape.name}-{kind.replace(' ', '-')}-{length}.heap", heap.data)
-            for name, call, address, size in calls_on(kind, heap):
-                yield length, kind, name, *count(program, path, call, address, size)
+            calls = [*calls_on(kind, heap)]
+            # Most of the time goes into starts of the program, so as many run at a time as there are processors.
+            with ThreadPoolExecutor(os.cpu_count()) as pool:
+                counts = pool.map(lambda row: count(program, path, *row[1:]), calls)
+            for (name, *_), both in zip(calls, counts):
+                yield length, kind, name, *both
 
 
 def print_growth(counts):

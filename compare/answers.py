@@ -149,9 +149,9 @@ def compare(command, all_asked):
     for asked in all_asked:
         for question, answer in zip(asked.questions, asked.answers):
             if not got.startswith(answer, at):
-                with open("target/differs.heap", "wb") as file:
+                with open("out/differs.heap", "wb") as file:
                     file.write(asked.start)
-                sys.exit(f"ask: of the heap target/differs.heap, question {question}: expected\n{answer}got\n{got[at:at + len(answer)]}")
+                sys.exit(f"ask: of the heap out/differs.heap, question {question}: expected\n{answer}got\n{got[at:at + len(answer)]}")
             at += len(answer)
     if at != len(got):
         sys.exit(f"ask: more than was asked for: {got[at:at + 80]}")

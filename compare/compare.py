@@ -6,7 +6,7 @@
 
 "--shape hand" is for the hand unit's library. "--library bench/twin.c --prefix
 twin_" compares the plain C twin, and with "--shape hand --cflags=-DTWIN_WORD=4" the
-one for the hand unit. The driver is built below target/compare. The figures that are run come first, then the sizes
+one for the hand unit. The driver is built below out/compare. The figures that are run come first, then the sizes
 that an item's header can have, then runs on a heap and on one in a longer buffer, both as long as
 their buffers or both with the same end to begin with, heaps that are swept above all, heaps that
 grow above all, heaps of which all is freed and swept until they are fresh again, random runs on
@@ -27,7 +27,7 @@ import time
 from concurrent.futures import ProcessPoolExecutor
 from itertools import repeat
 
-sys.dont_write_bytecode = True  # products belong below target/
+sys.dont_write_bytecode = True  # products belong below out/
 from damage import damaged
 from heaps import Tally
 from runs import (CALLS, HABITS, RESIZES, Player, Run, before, full_of_pages, grown_run, not_back, random_run, run_and_back,
@@ -35,11 +35,11 @@ from runs import (CALLS, HABITS, RESIZES, Player, Run, before, full_of_pages, gr
 from second import FIGURES, HAND, SHAPES, VARIABLE, WIDE, Heap, played, sizes_of, start_of, used_header
 
 ROOT = os.path.dirname(os.path.dirname(os.path.abspath(__file__)))
-PRODUCTS = os.path.join(ROOT, "target", "compare")
-CHOST = os.path.join(ROOT, "tools", "chost")
+PRODUCTS = os.path.join(ROOT, "out", "compare")
+CC = (*os.environ.get("CC", "cc").split(), "-O3", "-Wall", "-Wextra", "-Werror")
 PREFIXES = {WIDE: "jagwibodu_", HAND: "jagwibodu_hand_"}  # of the calls in the header
 BATCH_BYTES = 16 << 20
-TIME_LIMIT = 120  # seconds for one batch, of which an emulator needs some
+TIME_LIMIT = 120  # seconds for one batch
 STACK = struct.Struct("<QQQ")  # what the driver says last
 PARTS = 2  # processes side by side: each takes every second figure, class, run and group of damaged heaps
 PAIRS = 20  # runs on a heap and on a longer one; and, where heaps grow, as many on two that begin with the same end
@@ -237,10 +237,9 @@ def build_driver(chosen):
     os.makedirs(PRODUCTS, exist_ok=True)
     driver, own = os.path.join(PRODUCTS, f"driver-{chosen.shape.name}"), PREFIXES[chosen.shape]
     flags = [f"-D{own}{name}={chosen.prefix or own}{name}" for name in CALLS]
-    flags += [chosen.cflags, "-DHAND_UNIT" if chosen.shape == HAND else ""]
-    environment = dict(os.environ, CFLAGS=" ".join(flags))
+    flags += [*chosen.cflags.split(), *["-DHAND_UNIT"] * (chosen.shape == HAND)]
     source = os.path.join(ROOT, "compare", "driver.c")
-    subprocess.run([CHOST, "-o", driver, source, *chosen.library], check=True, env=environment)
+    subprocess.run([*CC, *flags, "-o", driver, source, *chosen.library], check=True)
     return driver
 
 
@@ -280,8 +279,7 @@ class Driver:
             given.write(commands)
             given.seek(0)
             try:
-                status = subprocess.run([CHOST, "-r", self.program], stdin=given, stdout=taken,
-                                        timeout=TIME_LIMIT).returncode
+                status = subprocess.run([self.program], stdin=given, stdout=taken, timeout=TIME_LIMIT).returncode
             except subprocess.TimeoutExpired:
                 status = f"none within {TIME_LIMIT} s"
             taken.seek(0)

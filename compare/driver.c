@@ -149,7 +149,7 @@ static void write_changes(void)
 #define PAINTED 65536
 #define COLOUR 0x5c5c5c5c5c5c5c5cu
 
-static volatile uint64_t *lowest; /* the lowest painted word; NULL where nothing is painted */
+static uintptr_t lowest; /* where the lowest painted word is; 0 where nothing is painted */
 static uint64_t measured;
 static uint64_t deepest;
 
@@ -160,19 +160,19 @@ static __attribute__((noinline)) void paint(void)
 
     for (size_t i = 0; i < PAINTED / 8; i++)
         stretch[i] = COLOUR;
-    lowest = stretch;
+    lowest = (uintptr_t)stretch;
 }
 
 /* How far below `frame` the call went, where the stack was painted. */
 static __attribute__((noinline)) void measure(const uint8_t *frame)
 {
-    volatile uint64_t *at = lowest;
+    volatile uint64_t *at = (volatile uint64_t *)lowest;
 
-    if (at == NULL)
+    if (lowest == 0)
         return;
     while ((const uint8_t *)at < frame && *at == COLOUR)
         at++;
-    lowest = NULL;
+    lowest = 0;
     measured++;
     if ((uint64_t)(frame - (const uint8_t *)at) > deepest)
         deepest = (uint64_t)(frame - (const uint8_t *)at);

@@ -58,9 +58,9 @@ def main(count, seed, command):
     with ThreadPoolExecutor(os.cpu_count()) as pool:
         for what, heap, differing in pool.map(lambda case: compare(command, case), cases(random.Random(f"{seed} reports"), count)):
             if differing is not None:
-                with open("target/differs.heap", "wb") as file:
+                with open("out/differs.heap", "wb") as file:
                     file.write(differing)
-                sys.exit("show: the report on target/differs.heap differs")
+                sys.exit("show: the report on out/differs.heap differs")
             note(tally, what, heap)
     tally.demand(enough_heaps(count))
     print(f"show: the reports on {tally['heaps']} heaps, {tally['hand: heaps']} of them the hand unit's and {tally['refused']} of "
