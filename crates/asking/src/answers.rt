@@ -1,106 +1,142 @@
-// The kinds of questions, each a call of `serving` or the report of `showing`, and their lines. The first 8 bytes of a heap tell the word size.
-ghost use Rattle.words.specs.Width.{Width};
-
+// The kinds of questions, each a call of `serving` or the report of `showing`, and their lines. The first 8 bytes of a heap tell the width of its words.
 use crate::input::Reason;
 use crate::payload::{sum_of, turn_over};
-use model::{Address, Position};
+use model::{Address, Hand, MOST_CLASSES, Position, Wide};
 use reading::stepping::Kind;
 use serving::counting::{class_table, statistics};
-use serving::lookup::{look_up, look_up_mut, look_up_refusal};
-use serving::walks::Walk;
-use showing::{word_size, write_report};
+use serving::lookup::{look_up, look_up_mut};
+use serving::walks::{Step, Walk};
+use showing::{is_hand, write_report};
 use std::io;
 use std::io::Write;
+use words::Width;
 
 // Look-up: the refusal number; how many bytes the payload has, and their sum.
-fn answer_look_up<W: Write>(out: &mut W, w: usize, h: &[u8], a: Address) -> io::Result<()>
-    requires { Width w }
-{
-    let refusal = look_up_refusal(w, h, a);
-    let part = look_up(w, h, a);
-    let length = part.len();
-    let sum = sum_of(part);
-    writeln!(out, "{refusal} {length} {sum}")
+fn answer_look_up<W: Width, O: Write>(out: &mut O, h: &[u8], a: Address) -> io::Result<()> {
+    match look_up::<W>(h, a) {
+        Ok(part) => writeln!(out, "0 {} {}", part.len(), sum_of(part)),
+        Err(k) => writeln!(out, "{} 0 {}", u64::from(k), sum_of(&[])),
+    }
 }
 
 // Look-up for writing: how many bytes the payload has. All are turned over.
-fn answer_turned<W: Write>(out: &mut W, w: usize, h: &mut [u8], a: Address) -> io::Result<()>
-    requires { Width w }
-{
-    let part = look_up_mut(w, h, a);
-    turn_over(part);
-    writeln!(out, "{}", part.len())
+fn answer_turned<W: Width, O: Write>(out: &mut O, h: &mut [u8], a: Address) -> io::Result<()> {
+    match look_up_mut::<W>(h, a) {
+        Ok(part) => {
+            turn_over(part);
+            writeln!(out, "{}", part.len())
+        }
+        Err(_) => writeln!(out, "0"),
+    }
 }
 
 // What a block is.
-fn write_kind<W: Write>(out: &mut W, kind: Kind) -> io::Result<()> {
+fn write_kind<O: Write>(out: &mut O, kind: Kind) -> io::Result<()> {
     match kind {
         Kind::Free { next, previous } => writeln!(out, "free {} {}", next.0, previous.0),
         Kind::Variable => writeln!(out, "variable"),
         Kind::Page { class } => writeln!(out, "page {class}"),
-        Kind::End => writeln!(out, "end"),
     }
 }
 
-// A step of a walk: the refusal number; where the walk then stands; the block's position and size, and what it is.
-fn answer_step<W: Write>(out: &mut W, w: usize, h: &[u8], walk: Walk) -> io::Result<()>
-    requires { Width w }
-{
-    let step = walk.step(w, h);
-    let refusal = step.refusal;
+// A granted step: 0; where the walk then stands; the block's position and size, and what it is.
+fn write_step<O: Write>(out: &mut O, step: Step) -> io::Result<()> {
     let next = step.walk.at.0;
-    let block = step.block;
-    let size = block.size;
-    write!(out, "{refusal} {next} {} {size} ", block.position.0)?;
-    write_kind(out, block.kind)
+    match step.block {
+        Some(block) => {
+            write!(out, "0 {next} {} {} ", block.position.0, block.size)?;
+            write_kind(out, block.kind)
+        }
+        None => writeln!(out, "0 {next} 0 0 end"),
+    }
+}
+
+// A step of a walk; where it is refused, the refusal number, and the walk stays at the end.
+fn answer_step<W: Width, O: Write>(out: &mut O, h: &[u8], walk: Walk) -> io::Result<()> {
+    match walk.step::<W>(h) {
+        Ok(step) => write_step(out, step),
+        Err(k) => writeln!(out, "{} {} 0 0 end", u64::from(k), walk.at.0),
+    }
 }
 
 // Statistics: the refusal number, and the six numbers.
-fn answer_statistics<W: Write>(out: &mut W, w: usize, h: &[u8]) -> io::Result<()>
-    requires { Width w }
-{
-    let counted = statistics(w, h);
-    let s = counted.statistics;
-    write!(
-        out,
-        "{} {} {}",
-        counted.refusal, s.free_bytes, s.free_blocks
-    )?;
-    write!(out, " {} {}", s.largest_free, s.variables)?;
-    writeln!(out, " {} {}", s.pages, s.items)
+fn answer_statistics<W: Width, O: Write>(out: &mut O, h: &[u8]) -> io::Result<()> {
+    match statistics::<W>(h) {
+        Ok(s) => {
+            write!(out, "0 {} {}", s.free_bytes, s.free_blocks)?;
+            write!(out, " {} {}", s.largest_free, s.variables)?;
+            writeln!(out, " {} {}", s.pages, s.items)
+        }
+        Err(k) => writeln!(out, "{} 0 0 0 0 0 0", u64::from(k)),
+    }
 }
 
 // The table of classes: a class's pages, live items and free items.
-fn answer_table<W: Write>(out: &mut W, w: usize, h: &[u8]) -> io::Result<()>
-    requires { Width w }
-{
+fn answer_table<W: Width, O: Write>(out: &mut O, h: &[u8]) -> io::Result<()> {
+    let table = class_table::<W>(h).unwrap_or([[0; 3]; MOST_CLASSES]);
     write!(out, "classes")?;
-    for [pages, held, idle] in class_table(w, h) {
+    for [pages, held, idle] in table {
         write!(out, " {pages} {held} {idle}")?;
     }
     writeln!(out)
 }
 
 // The report, and an empty line.
-fn answer_report<W: Write>(out: &mut W, h: &[u8]) -> io::Result<()> {
+fn answer_report<O: Write>(out: &mut O, h: &[u8]) -> io::Result<()> {
     write_report(out, h)?;
     writeln!(out)
 }
 
-// A question of a kind, with a number that is an address, a position or nothing: 0 look-up, 1 a walk's step, 2 its first step, 3 statistics,
-// 4 the table of classes, 5 the report, 6 look-up for writing. Its answer is a line, the report's many.
-pub fn answer<W: Write>(out: &mut W, h: &mut [u8], kind: u8, n: u64) -> Result<(), Reason> {
-    let w = word_size(h);
-    let n = n as usize;
-    match kind {
-        0 => answer_look_up(out, w, h, Address(n))?,
-        1 => answer_step(out, w, h, Walk { at: Position(n) })?,
-        2 => answer_step(out, w, h, Walk::start(w))?,
-        3 => answer_statistics(out, w, h)?,
-        4 => answer_table(out, w, h)?,
-        5 => answer_report(out, h)?,
-        6 => answer_turned(out, w, h, Address(n))?,
-        _ => return Err(Reason::NoSuchQuestion),
+// A question, with the address or the walk that it is about.
+#[derive(Clone, Copy)]
+enum Question {
+    LookUp(Address),
+    Step(Walk),
+    FirstStep,
+    Statistics,
+    Table,
+    Report,
+    Turn(Address),
+}
+
+impl Question {
+    // The question of a kind, with a number that is an address, a position or nothing.
+    fn new(kind: u8, n: u64) -> Result<Question, Reason> {
+        let n = n as usize;
+        match kind {
+            0 => Ok(Question::LookUp(Address(n))),
+            1 => Ok(Question::Step(Walk { at: Position(n) })),
+            2 => Ok(Question::FirstStep),
+            3 => Ok(Question::Statistics),
+            4 => Ok(Question::Table),
+            5 => Ok(Question::Report),
+            6 => Ok(Question::Turn(Address(n))),
+            _ => Err(Reason::NoSuchQuestion),
+        }
+    }
+}
+
+// What a question on a heap with words of this width is answered: a line, the report many.
+fn reply<W: Width, O: Write>(out: &mut O, h: &mut [u8], question: Question) -> io::Result<()> {
+    match question {
+        Question::LookUp(a) => answer_look_up::<W, O>(out, h, a),
+        Question::Step(walk) => answer_step::<W, O>(out, h, walk),
+        Question::FirstStep => answer_step::<W, O>(out, h, Walk::start::<W>()),
+        Question::Statistics => answer_statistics::<W, O>(out, h),
+        Question::Table => answer_table::<W, O>(out, h),
+        Question::Report => answer_report(out, h),
+        Question::Turn(a) => answer_turned::<W, O>(out, h, a),
+    }
+}
+
+// Answers a question of a kind, with a number: 0 look-up, 1 a walk's step, 2 its first step, 3 statistics, 4 the table of classes, 5 the report,
+// 6 look-up for writing.
+pub fn answer<O: Write>(out: &mut O, h: &mut [u8], kind: u8, n: u64) -> Result<(), Reason> {
+    let question = Question::new(kind, n)?;
+    if is_hand(h) {
+        reply::<Hand, O>(out, h, question)?;
+    } else {
+        reply::<Wide, O>(out, h, question)?;
     }
     Ok(())
 }

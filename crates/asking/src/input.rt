@@ -2,7 +2,6 @@
 use filling::read_full;
 use std::io::{Read, Write};
 use std::{fmt, io};
-use words::word;
 
 // Why the program stops before the input ends; or a read or a write failed.
 #[derive(Debug, Drop)]
@@ -38,7 +37,7 @@ pub fn read_number<R: Read>(input: &mut R) -> Result<Option<u64>, Reason> {
     let mut bytes = [0u8; NUMBER];
     match read_full(input, &mut bytes)? {
         0 => Ok(None),
-        NUMBER => Ok(Some(word(NUMBER, &bytes, 0) as u64)),
+        NUMBER => Ok(Some(u64::from_le_bytes(bytes))),
         _ => stop_short(),
     }
 }

@@ -1,9 +1,5 @@
 -- Whether a heap may end somewhere, told by comparisons.
-use Prim.Native.Nat.{ℕ, ◌%◌, ◌≤◌}
-use mathlib.Core.Path.{◌≡◌}
-use mathlib.Core.Bool.{true, false}
-use native.Mathlib.Omega.{arith}
-use lib.Dec.{eqb}
+use Rattle.std.proofs.Common.{ℕ, ◌%◌, ◌≤◌, ◌≡◌, true, false, arith, eqb}
 use Rattle.model.specs.Shape.{shape, shortest, end_of}
 use Rattle.model.specs.Sound.{MayEnd}
 use Rattle.telling.specs.Tells.{Tells}

@@ -1,15 +1,11 @@
 -- Free: what each way through the call shows.
-use Prim.Native.Nat.{ℕ}
-use mathlib.Core.Path.{◌≡◌, sym, ap, subst, ◌∙◌}
-use mathlib.Core.Bool.{true, false}
-use mathlib.Core.List.{List}
+use Rattle.std.proofs.Common.{Some, None, ℕ, sym, ap, ◌∙◌, List}
 use Rattle.model.specs.declared.Position.{Position}
 use Rattle.model.specs.Shape.{shape}
 use Rattle.model.specs.Layout.{Layout}
 use Rattle.model.specs.Sound.{Here}
 use Rattle.find.specs.declared.UsedBlock.{UsedBlock}
-use Rattle.find.specs.declared.Live.{Live}
-use Rattle.find.specs.declared.Live.TheVariants.{Nothing, Item, Variable}
+use Rattle.find.specs.declared.Live.TheVariants.{Item, Variable}
 use Rattle.find.specs.Find.{Finds}
 use Rattle.items.specs.Items.{ItemLive, ItemIn, GaveItem}
 use Rattle.items.proofs.GiveLaws.{live_in, gave_draws, gave_sound}
@@ -18,53 +14,50 @@ use Rattle.releasing.proofs.ReleaseLaws.{live_used, freed_draws, freed_sound}
 use Rattle.engine.specs.Free.{is_found, freed_bytes, GivesBack}
 use Rattle.engine.specs.Ready.{Ready}
 
-module _ {w : ℕ} (b : List ℕ) (a : ℕ) (k : Ready w b) (x : Live) (f : (L : Layout) → Here (shape w) b L → Finds w L a x) where
-  found_as : (y : Live) → x ≡ y → (L : Layout) → Here (shape w) b L → Finds w L a y
-  found_as y e L h = subst (λ (z : Live). Finds w L a z) e (f L h)
-
-  pub free_none : x ≡ Nothing → GivesBack w b a false b
+module _ {w : ℕ} {b : List ℕ} (a : ℕ) (k : Ready w b) where
+  pub free_none : ((L : Layout) → Here (shape w) b L → Finds w L a None) → GivesBack w b a None b
   unfolding Finds
-  free_none e =
+  free_none f =
       record {
-        answer = λ L h. ap is_found (sym (found_as Nothing e L h));
-        bytes = λ L h. ap (freed_bytes w b L) (sym (found_as Nothing e L h));
+        answer = λ L h. ap is_found (sym (f L h));
+        bytes = λ L h. ap (freed_bytes w b L) (sym (f L h));
         sound = k.sound;
       }
 
-  module _ (q : Position) (c n : ℕ) (e : x ≡ Item q c n) where
+  module _ (q : Position) (c n : ℕ) (f : (L : Layout) → Here (shape w) b L → Finds w L a (Some (Item q c n))) where
     item_live : ItemLive w b q.0 c
     unfolding Finds
     item_live =
-        let g = found_as (Item q c n) e k.sound.layout k.sound.here in
+        let g = f k.sound.layout k.sound.here in
         record { width = k.width; layout = k.sound.layout; here = k.sound.here; short = k.short; low = g.0; address = a; asked = n; found = g.1 }
 
     pub item_in : ItemIn w b q.0 c
     item_in = live_in item_live
 
-    pub free_item : (d : List ℕ) → GaveItem w b q.0 c d → GivesBack w b a true d
+    pub free_item : {d : List ℕ} → GaveItem w b q.0 c d → GivesBack w b a (Some tt) d
     unfolding Finds
-    free_item d g =
+    free_item g =
         record {
-          answer = λ L h. ap is_found (sym (found_as (Item q c n) e L h).1);
-          bytes = λ L h. gave_draws k.width (found_as (Item q c n) e L h).0 g L a n h (found_as (Item q c n) e L h).1 ∙ ap (freed_bytes w b L) (sym (found_as (Item q c n) e L h).1);
+          answer = λ L h. ap is_found (sym (f L h).1);
+          bytes = λ L h. gave_draws k.width (f L h).0 g L a n h (f L h).1 ∙ ap (freed_bytes w b L) (sym (f L h).1);
           sound = gave_sound item_live g;
         }
 
-  module _ (y : UsedBlock) (e : x ≡ Variable y) where
+  module _ {y : UsedBlock} (f : (L : Layout) → Here (shape w) b L → Finds w L a (Some (Variable y))) where
     block_live : BlockLive w b y
     unfolding Finds
     block_live =
-        let g = found_as (Variable y) e k.sound.layout k.sound.here in
+        let g = f k.sound.layout k.sound.here in
         record { width = k.width; layout = k.sound.layout; here = k.sound.here; short = k.short; address = a; spot = g.0; found = g.1 }
 
     pub block_used : BlockIn w b y
     block_used = live_used block_live
 
-    pub free_block : (d : List ℕ) → GivenBack w b y d → GivesBack w b a true d
+    pub free_block : {d : List ℕ} → GivenBack w b y d → GivesBack w b a (Some tt) d
     unfolding Finds
-    free_block d g =
+    free_block g =
         record {
-          answer = λ L h. ap is_found (sym (found_as (Variable y) e L h).1.found);
-          bytes = λ L h. let v = found_as (Variable y) e L h in freed_draws k.width g L a v.0 h v.1 ∙ ap (freed_bytes w b L) (sym v.1.found);
+          answer = λ L h. ap is_found (sym (f L h).1.found);
+          bytes = λ L h. let v = f L h in freed_draws k.width g L a v.0 h v.1 ∙ ap (freed_bytes w b L) (sym v.1.found);
           sound = freed_sound block_live g;
         }

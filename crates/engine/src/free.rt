@@ -6,22 +6,16 @@ use find::{Live, find};
 use items::give;
 use model::Address;
 use releasing::release;
+use words::Width;
 
-// Gives back what is live at a: true; or false where nothing is, and nothing changes.
-pub fn free(w: usize, h: &mut [u8], a: Address) -> bool
-    requires { Ready w h.old }
-    ensures { GivesBack w h.old a.0 result h.new }
+// Gives back what is live at a; or answers None where nothing is, and nothing changes.
+pub fn free<W: Width>(h: &mut [u8], a: Address) -> Option<()>
+    requires { Ready W.BYTES h.old }
+    ensures { GivesBack W.BYTES h.old a.0 result h.new }
 {
-    let x = find(w, h, a);
-    match x {
-        Live::Nothing => false,
-        Live::Item(q, c, _) => {
-            give(w, h, q, c);
-            true
-        }
-        Live::Variable(b) => {
-            release(w, h, b);
-            true
-        }
+    match find::<W>(h, a)? {
+        Live::Item { at, class, .. } => give::<W>(h, at, class),
+        Live::Variable(b) => release::<W>(h, b),
     }
+    Some(())
 }

@@ -1,17 +1,11 @@
--- What each way through the examination shows, and what follows from a verdict for a call's contract.
-use Prim.Native.Nat.{ℕ, ◌-◌}
-use mathlib.Core.Path.{◌≡◌, refl, sym, subst, ◌∙◌}
-use mathlib.Core.Bool.{Bool, true, false}
-use mathlib.Core.Logic.{◌⊎◌, inl, inr}
-use mathlib.Core.List.{List}
-use native.Mathlib.Omega.{arith}
-use lib.ListN.{length, take}
-use lib.Seq.{length-take-le}
+-- What each way through the examination shows, and what follows from its answer for a call's contract.
+use Rattle.std.specs.Prelude.{Result, Ok, Err}
+use Rattle.std.proofs.Common.{ℕ, ◌-◌, ◌≤◌, ◌≡◌, refl, ap, sym, subst, ◌∙◌, Bool, true, false, ◌⊎◌, inl, inr, List, IsErrAnd, arith, length, take, length-take-le}
 use Rattle.words.specs.Width.{Width}
 use Rattle.words.specs.Word.{word_at}
 use Rattle.model.specs.Shape.{shape}
 use Rattle.model.specs.Layout.{Layout}
-use Rattle.model.specs.Sound.{Here, Sound, MayEnd, stored_end, HereIn, SoundIn}
+use Rattle.model.specs.Sound.{Here, Sound, MayEnd, stored_end, heap_of, HereIn, SoundIn}
 use Rattle.model.specs.Refusals.{bad_size}
 use Rattle.model.specs.Parts.{magic_bytes}
 use Rattle.model.specs.Calls.{Outcome, refused, Lent, GoodSize, Checked, sized}
@@ -20,40 +14,38 @@ use Rattle.model.proofs.rules.Ready.{may_shortest}
 use Rattle.model.proofs.rules.Sized.{good, bad}
 use Rattle.telling.specs.Tells.{Tells}
 use Rattle.telling.proofs.Tellings.{clash}
-use Rattle.examining.specs.declared.Refusal.{Refusal}
-use Rattle.examining.specs.declared.Refusal.TheVariants.{BadLength, NotOpened, NotSound, BadSize, NotLive, NoRoom, AlreadyOpened, BadEnd}
-use Rattle.examining.specs.declared.Verdict.{Verdict}
-use Rattle.examining.specs.declared.Verdict.TheVariants.{Fine, Unfit}
-use Rattle.examining.specs.Examined.{refusal_number, UnfitFor, Examined, ExaminedFor}
+use Rattle.model.specs.declared.refusals.Refusal.{Refusal}
+use Rattle.model.specs.declared.refusals.Refusal.TheVariants.{BadLength, NotOpened, NotSound, BadSize, NotLive, NoRoom, AlreadyOpened, BadEnd}
+use Rattle.model.specs.Refused.{refusal_number}
+use Rattle.examining.specs.Examined.{UnfitFor, Examined, ExaminedFor}
+
+-- what `?` hands on is the same refusal
+pub passed_on : {A : Type 0} (P : Result A Refusal → Type 0) (r : Result A Refusal) (k : Refusal) → IsErrAnd r (λ e. e ≡ k) → P (Err k) → P r
+passed_on P (Ok x) k i h = absurd i
+passed_on P (Err e) k i h = subst (λ (j : Refusal). P (Err j)) (sym i) h
 
 -- a part is lent from the start on
 from_start : (x : ℕ) → x - 0 ≡ x
 from_start x = omega arith
 
 module _ (w : ℕ) (b : List ℕ) where
-  pub examined_length : (Lent (shape w) b → ⊥) → Examined w b (Unfit BadLength)
+  pub examined_length : (Lent (shape w) b → ⊥) → Examined w b (Err BadLength)
   unfolding Examined UnfitFor
   examined_length n = n
 
   module _ (l : Lent (shape w) b) (m : ℕ) (e : m ≡ word_at magic_bytes b 0) where
-    pub examined_word : (m ≡ (shape w).magic → ⊥) → Examined w b (Unfit NotOpened)
+    pub examined_word : (m ≡ (shape w).magic → ⊥) → Examined w b (Err NotOpened)
     unfolding Examined UnfitFor
     examined_word n = (l, λ o. n (e ∙ o))
 
     -- the end that is named is none
-    pub examined_end : m ≡ (shape w).magic → (x : ℕ) → x ≡ stored_end (shape w) b → (r : Bool) → Tells r (MayEnd (shape w) (length b) x) → r ≡ false → Examined w b (Unfit NotSound)
+    pub examined_end : m ≡ (shape w).magic → (x : ℕ) → x ≡ stored_end (shape w) b → (r : Bool) → Tells r (MayEnd (shape w) (length b) x) → r ≡ false → Examined w b (Err NotSound)
     unfolding Examined UnfitFor
     examined_end i x k r t f = (l, sym e ∙ i, λ s. clash r f (t.is_yes (subst (λ (y : ℕ). MayEnd (shape w) (length b) y) (sym k) s.here.ended)))
 
-    pub examined_unsound : m ≡ (shape w).magic → (x : ℕ) → x ≡ stored_end (shape w) b → (r : Bool) → Tells r (Sound (shape w) (take (x - 0) b)) → r ≡ false → Examined w b (Unfit NotSound)
+    pub examined_unsound : m ≡ (shape w).magic → (d : List ℕ) → d ≡ heap_of (shape w) b → (r : Bool) → Tells r (Sound (shape w) d) → r ≡ false → Examined w b (Err NotSound)
     unfolding Examined UnfitFor
-    examined_unsound i x k r t f = (l, sym e ∙ i, λ s. clash r f (t.is_yes (record { layout = s.layout; here = subst (λ (y : ℕ). Here (shape w) (take y b) s.layout) (sym (from_start x ∙ k)) s.here.here })))
-
-  pub examined_fine : Lent (shape w) b → (x : ℕ) → x ≡ stored_end (shape w) b → MayEnd (shape w) (length b) x → (r : Bool) → Tells r (Sound (shape w) (take (x - 0) b)) → r ≡ true → Examined w b Fine
-  unfolding Examined
-  examined_fine l x k m r t e =
-      let s = t.yes_is e in
-      (l, record { layout = s.layout; here = record { ended = subst (λ (y : ℕ). MayEnd (shape w) (length b) y) k m; here = subst (λ (y : ℕ). Here (shape w) (take y b) s.layout) (from_start x ∙ k) s.here } })
+    examined_unsound i d k r t f = (l, sym e ∙ i, λ s. clash r f (t.is_yes (record { layout = s.layout; here = subst (λ (y : List ℕ). Here (shape w) y s.layout) (sym k) s.here.here })))
 
   -- an end that may be: the part up to it is as long, and lent
   pub part_lent : Width w → Lent (shape w) b → (x : ℕ) → MayEnd (shape w) (length b) x → Lent (shape w) (take (x - 0) b)
@@ -61,10 +53,28 @@ module _ (w : ℕ) (b : List ℕ) where
       let e : length (take (x - 0) b) ≡ x = rw (from_start x) (length-take-le x b (omega (arith, m.1))) in
       (omega (arith, e, may_shortest wd (length b) x l.0 m), omega (arith, e, m.1, l.1))
 
-  -- a heap that is fine
-  pub fine_heap : (v : Verdict) → Examined w b v → v ≡ Fine → Lent (shape w) b × SoundIn (shape w) b
+  -- and of the end that is named, the heap's own part
+  module _ (l : Lent (shape w) b) (x : ℕ) (k : x ≡ stored_end (shape w) b) (m : MayEnd (shape w) (length b) x) where
+    pub may_lend : stored_end (shape w) b ≤ length b
+    may_lend = omega (arith, k, m.1)
+
+    module _ (d : List ℕ) (o : d ≡ heap_of (shape w) b) where
+      pub own_part_lent : Width w → Lent (shape w) d
+      own_part_lent wd = subst (λ (y : List ℕ). Lent (shape w) y) (sym (o ∙ ap (λ (y : ℕ). take y b) (sym (from_start x ∙ k)))) (part_lent wd l x m)
+
+      pub examined_fine : (r : Bool) → Tells r (Sound (shape w) d) → r ≡ true → Examined w b (Ok d)
+      unfolding Examined
+      examined_fine r t e =
+          let s = t.yes_is e in
+          ((l, record { layout = s.layout; here = record { ended = subst (λ (y : ℕ). MayEnd (shape w) (length b) y) k m; here = subst (λ (y : List ℕ). Here (shape w) y s.layout) o s.here } }), o)
+
+  -- a heap that is fine, and what is lent of it
+  pub fine_lent : (v : Result (List ℕ) Refusal) {o : List ℕ} → Examined w b v → v ≡ Ok o → (Lent (shape w) b × SoundIn (shape w) b) × (o ≡ heap_of (shape w) b)
   unfolding Examined
-  fine_heap v x e = rw e at x
+  fine_lent v x e = rw e at x
+
+  pub fine_heap : (v : Result (List ℕ) Refusal) {o : List ℕ} → Examined w b v → v ≡ Ok o → Lent (shape w) b × SoundIn (shape w) b
+  fine_heap v x e = (fine_lent v x e).0
 
   -- a reason to say no is the contract's, and no other applies
   module _ {A : Type 0} (no-with : ℕ → A) (rule : Layout → A) where
@@ -81,14 +91,13 @@ module _ (w : ℕ) (b : List ℕ) where
     unfit_checked AlreadyOpened n = absurd n
     unfit_checked BadEnd n = absurd n
 
-    pub refuses : (v : Verdict) (k : Refusal) → Examined w b v → v ≡ Unfit k → Checked (shape w) b no-with rule (no-with (refusal_number k))
+    pub refuses : (v : Result (List ℕ) Refusal) (k : Refusal) → Examined w b v → v ≡ Err k → Checked (shape w) b no-with rule (no-with (refusal_number k))
     unfolding Examined
     refuses v k x e = unfit_checked k (rw e at x)
 
     -- and of a sound heap the rule decides
-    pub decides : (v : Verdict) → Examined w b v → v ≡ Fine → (r : A) → ((L : Layout) → HereIn (shape w) b L → r ≡ rule L) → Checked (shape w) b no-with rule r
-    decides v x e r d =
-        let y = fine_heap v x e in
+    fit_decides : Lent (shape w) b × SoundIn (shape w) b → (r : A) → ((L : Layout) → HereIn (shape w) b L → r ≡ rule L) → Checked (shape w) b no-with rule r
+    fit_decides y r d =
         record {
           one = λ n. absurd (n y.0);
           two = λ _ n. absurd (n (own_opened (shape w) b y.1.layout y.1.here));
@@ -96,37 +105,40 @@ module _ (w : ℕ) (b : List ℕ) where
           sound = λ _ L h. d L h;
         }
 
+    pub decides : (v : Result (List ℕ) Refusal) {o : List ℕ} → Examined w b v → v ≡ Ok o → (r : A) → ((L : Layout) → HereIn (shape w) b L → r ≡ rule L) → Checked (shape w) b no-with rule r
+    decides v x e r d = fit_decides (fine_heap v x e) r d
+
 -- a call that has a size
 module _ (w : ℕ) (b : List ℕ) (n : ℕ) where
-  pub fit_for : (v : Verdict) → Examined w b v → v ≡ Fine → (r : Bool) → Tells r (GoodSize (shape w) n) → r ≡ true → ExaminedFor w b n Fine
+  pub fit_for : (v : Result (List ℕ) Refusal) {o : List ℕ} → Examined w b v → v ≡ Ok o → (r : Bool) → Tells r (GoodSize (shape w) n) → r ≡ true → ExaminedFor w b n (Ok o)
   unfolding ExaminedFor
-  fit_for v x e r t f = (subst (λ (y : Verdict). Examined w b y) e x, t.yes_is f)
+  fit_for v x e r t f = (rw e at x, t.yes_is f)
 
-  pub bad_for : (v : Verdict) → Examined w b v → v ≡ Fine → (r : Bool) → Tells r (GoodSize (shape w) n) → r ≡ false → ExaminedFor w b n (Unfit BadSize)
+  pub bad_for : (v : Result (List ℕ) Refusal) {o : List ℕ} → Examined w b v → v ≡ Ok o → (r : Bool) → Tells r (GoodSize (shape w) n) → r ≡ false → ExaminedFor w b n (Err BadSize)
   unfolding ExaminedFor
-  bad_for v x e r t f = inr (refl, subst (λ (y : Verdict). Examined w b y) e x, λ g. clash r f (t.is_yes g))
+  bad_for v x e r t f = inr (refl, fine_heap w b v x e, λ g. clash r f (t.is_yes g))
 
-  pub unfit_for : (v : Verdict) (k : Refusal) → Examined w b v → v ≡ Unfit k → ExaminedFor w b n (Unfit k)
+  pub unfit_for : (v : Result (List ℕ) Refusal) (k : Refusal) → Examined w b v → v ≡ Err k → ExaminedFor w b n (Err k)
   unfolding ExaminedFor
-  unfit_for v k x e = inl (subst (λ (y : Verdict). Examined w b y) e x)
+  unfit_for v k x e = inl (rw e at x)
 
   -- a heap and a size that are fine
-  pub fine_for : (v : Verdict) → ExaminedFor w b n v → v ≡ Fine → Lent (shape w) b × SoundIn (shape w) b × GoodSize (shape w) n
+  pub fine_for : (v : Result (List ℕ) Refusal) {o : List ℕ} → ExaminedFor w b n v → v ≡ Ok o → ((Lent (shape w) b × SoundIn (shape w) b) × (o ≡ heap_of (shape w) b)) × GoodSize (shape w) n
   unfolding ExaminedFor Examined
-  fine_for v x e = let y : (Lent (shape w) b × SoundIn (shape w) b) × GoodSize (shape w) n = subst (λ (z : Verdict). ExaminedFor w b n z) e x in (y.0.0, y.0.1, y.1)
+  fine_for v x e = rw e at x
 
-  pub sized_refuses : (next : Layout → Outcome) (v : Verdict) (k : Refusal) → ExaminedFor w b n v → v ≡ Unfit k → Checked (shape w) b (refused b) (λ L. sized (shape w) n b (next L)) (refused b (refusal_number k))
+  pub sized_refuses : (next : Layout → Outcome) (v : Result (List ℕ) Refusal) (k : Refusal) → ExaminedFor w b n v → v ≡ Err k → Checked (shape w) b (refused b) (λ L. sized (shape w) n b (next L)) (refused b (refusal_number k))
   unfolding ExaminedFor
-  sized_refuses next v k x e = go (subst (λ (y : Verdict). ExaminedFor w b n y) e x)
+  sized_refuses next v k x e = go (rw e at x)
     where
-      go : Examined w b (Unfit k) ⊎ ((k ≡ BadSize) × Examined w b Fine × (GoodSize (shape w) n → ⊥)) → Checked (shape w) b (refused b) (λ L. sized (shape w) n b (next L)) (refused b (refusal_number k))
-      go (inl u) = refuses w b (refused b) (λ L. sized (shape w) n b (next L)) (Unfit k) k u refl
+      go : Examined w b (Err k) ⊎ ((k ≡ BadSize) × (Lent (shape w) b × SoundIn (shape w) b) × (GoodSize (shape w) n → ⊥)) → Checked (shape w) b (refused b) (λ L. sized (shape w) n b (next L)) (refused b (refusal_number k))
+      go (inl u) = refuses w b (refused b) (λ L. sized (shape w) n b (next L)) (Err k) k u refl
       go (inr u) =
           subst (λ (j : Refusal). Checked (shape w) b (refused b) (λ L. sized (shape w) n b (next L)) (refused b (refusal_number j))) (sym u.0)
-          (decides w b (refused b) (λ L. sized (shape w) n b (next L)) Fine u.1 refl (refused b bad_size) (λ L h. rw (bad (shape w) n u.2) refl))
+          (fit_decides w b (refused b) (λ L. sized (shape w) n b (next L)) u.1 (refused b bad_size) (λ L h. rw (bad (shape w) n u.2) refl))
 
-  pub sized_decides : (next : Layout → Outcome) (v : Verdict) → ExaminedFor w b n v → v ≡ Fine → (r : Outcome) → ((L : Layout) → HereIn (shape w) b L → r ≡ next L) → Checked (shape w) b (refused b) (λ L. sized (shape w) n b (next L)) r
+  pub sized_decides : (next : Layout → Outcome) (v : Result (List ℕ) Refusal) {o : List ℕ} → ExaminedFor w b n v → v ≡ Ok o → (r : Outcome) → ((L : Layout) → HereIn (shape w) b L → r ≡ next L) → Checked (shape w) b (refused b) (λ L. sized (shape w) n b (next L)) r
   unfolding ExaminedFor
   sized_decides next v x e r d =
-      let y : Examined w b Fine × GoodSize (shape w) n = subst (λ (z : Verdict). ExaminedFor w b n z) e x in
-      decides w b (refused b) (λ L. sized (shape w) n b (next L)) Fine y.0 refl r (λ L h. rw (good (shape w) n y.1) (d L h))
+      let y = fine_for v x e in
+      fit_decides w b (refused b) (λ L. sized (shape w) n b (next L)) y.0.0 r (λ L h. rw (good (shape w) n y.1) (d L h))

@@ -1,24 +1,10 @@
 -- What a call finds first, of a heap with words of w bytes.
-use Rattle.std.specs.Prelude.{ℕ, ◌≡◌, ◌⊎◌, List}
+use Rattle.std.specs.Prelude.{ℕ, ◌≡◌, ◌⊎◌, List, Result, Ok, Err}
 use Rattle.model.specs.Shape.{shape}
-use Rattle.model.specs.Sound.{SoundIn}
-use Rattle.model.specs.Refusals.{bad_length, not_opened, not_sound, bad_size, not_live, no_room, already_opened, bad_end}
+use Rattle.model.specs.Sound.{SoundIn, heap_of}
 use Rattle.model.specs.Calls.{Lent, Opened, GoodSize}
-use Rattle.examining.specs.declared.Refusal.{Refusal}
-use Rattle.examining.specs.declared.Refusal.TheVariants.{BadLength, NotOpened, NotSound, BadSize, NotLive, NoRoom, AlreadyOpened, BadEnd}
-use Rattle.examining.specs.declared.Verdict.{Verdict}
-use Rattle.examining.specs.declared.Verdict.TheVariants.{Fine, Unfit}
-
--- the number of a refusal
-abbrev pub refusal_number : Refusal → ℕ
-refusal_number BadLength = bad_length
-refusal_number NotOpened = not_opened
-refusal_number NotSound = not_sound
-refusal_number BadSize = bad_size
-refusal_number NotLive = not_live
-refusal_number NoRoom = no_room
-refusal_number AlreadyOpened = already_opened
-refusal_number BadEnd = bad_end
+use Rattle.model.specs.declared.refusals.Refusal.{Refusal}
+use Rattle.model.specs.declared.refusals.Refusal.TheVariants.{BadLength, NotOpened, NotSound, BadSize, NotLive, NoRoom, AlreadyOpened, BadEnd}
 
 module _ (w : ℕ) where
   -- why every call but initialise says no: the first of 1, 2 and 3 that applies
@@ -32,11 +18,12 @@ module _ (w : ℕ) where
   UnfitFor b AlreadyOpened = ⊥
   UnfitFor b BadEnd = ⊥
 
-  unfoldable pub Examined : List ℕ → Verdict → Type 0
-  Examined b Fine = Lent (shape w) b × SoundIn (shape w) b
-  Examined b (Unfit k) = UnfitFor b k
+  -- a heap that is fit to be read, and is lent: the buffer up to its end
+  unfoldable pub Examined : List ℕ → Result (List ℕ) Refusal → Type 0
+  Examined b (Ok h) = (Lent (shape w) b × SoundIn (shape w) b) × (h ≡ heap_of (shape w) b)
+  Examined b (Err k) = UnfitFor b k
 
   -- of a call that has a size: the same, and then 4 where the size is bad
-  unfoldable pub ExaminedFor : List ℕ → ℕ → Verdict → Type 0
-  ExaminedFor b n Fine = Examined b Fine × GoodSize (shape w) n
-  ExaminedFor b n (Unfit k) = Examined b (Unfit k) ⊎ ((k ≡ BadSize) × Examined b Fine × (GoodSize (shape w) n → ⊥))
+  unfoldable pub ExaminedFor : List ℕ → ℕ → Result (List ℕ) Refusal → Type 0
+  ExaminedFor b n (Ok h) = Examined b (Ok h) × GoodSize (shape w) n
+  ExaminedFor b n (Err k) = Examined b (Err k) ⊎ ((k ≡ BadSize) × (Lent (shape w) b × SoundIn (shape w) b) × (GoodSize (shape w) n → ⊥))

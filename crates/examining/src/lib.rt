@@ -1,113 +1,68 @@
 // What a call finds first, before it does anything: whether the buffer can be a heap, holds one and is sound, and whether a size can be asked for.
 #![tactic(auto)]
 
-ghost use Rattle.std.specs.Prelude.{◌≡◌, ◌≤◌, length};
-ghost use Rattle.words.specs.Width.{Width};
-ghost use Rattle.model.specs.Shape.{shape, shortest};
-ghost use Rattle.model.specs.Refusals.{bad_end};
-ghost use Rattle.model.specs.Calls.{Lent, Opened, GoodSize};
+ghost use Rattle.model.specs.Shape.{shape};
+ghost use Rattle.model.specs.Calls.{Lent, GoodSize};
 ghost use Rattle.telling.specs.Tells.{Tells};
-ghost use Rattle.examining.specs.Examined.{refusal_number, Examined, ExaminedFor};
+ghost use Rattle.examining.specs.Examined.{Examined, ExaminedFor};
 
-use ending::{may_end, stored_end};
-use model::{
-    ALREADY_OPENED, BAD_END, BAD_LENGTH, BAD_SIZE, MAGIC_BYTES, NO_ROOM, NOT_LIVE, NOT_OPENED,
-    NOT_SOUND, Position, longest, magic, shortest,
-};
+use ending::{heap_of, may_end, stored_end};
+use model::{Refusal, longest, magic, shortest};
+use reading::heap::SoundHeap;
 use sound::is_sound;
-use words::word;
-
-// Why a call says no, in the order of its numbers in documents 01 and 02, 1 to 8.
-#[derive(Clone, Copy)]
-pub enum Refusal {
-    BadLength,
-    NotOpened,
-    NotSound,
-    BadSize,
-    NotLive,
-    NoRoom,
-    AlreadyOpened,
-    BadEnd,
-}
-
-// What every call but initialise finds first: a sound heap, or a reason to say no.
-#[derive(Clone, Copy)]
-pub enum Verdict {
-    Fine,
-    Unfit(Refusal),
-}
-
-// The number of a refusal.
-pub fn refusal_number(k: Refusal) -> u64
-    ensures { (result ≡ refusal_number k) × (result ≤ bad_end) }
-{
-    match k {
-        Refusal::BadLength => BAD_LENGTH,
-        Refusal::NotOpened => NOT_OPENED,
-        Refusal::NotSound => NOT_SOUND,
-        Refusal::BadSize => BAD_SIZE,
-        Refusal::NotLive => NOT_LIVE,
-        Refusal::NoRoom => NO_ROOM,
-        Refusal::AlreadyOpened => ALREADY_OPENED,
-        Refusal::BadEnd => BAD_END,
-    }
-}
+use std::marker::PhantomData;
+use words::{Eight, Width};
 
 // Whether the buffer's length is one that a heap may have.
-pub fn is_lent(w: usize, h: &[u8]) -> bool
-    requires { Width w }
-    ensures { Tells result (Lent (shape w) h.now) }
+pub fn is_lent<W: Width>(h: &[u8]) -> bool
+    ensures { Tells result (Lent (shape W.BYTES) h.now) }
 {
-    if h.len() < shortest(w) {
+    if h.len() < shortest::<W>() {
         return false;
     }
-    h.len() <= longest(w)
+    h.len() <= longest::<W>()
 }
 
-// The length, the first 8 bytes, and soundness up to the end that the heap names, in that order. Who reads much of a heap asks this once, and then reads its part of the buffer by the crate `reading`.
-pub fn examine(w: usize, h: &[u8]) -> Verdict
-    requires { Width w }
-    ensures { Examined w h.now result }
+// What every call but initialise finds first, a sound heap or a reason to say no: the length, the first 8 bytes, and soundness up to the end that the heap names, in that order. Who reads much of a heap asks this once, and then reads what it lends, the buffer up to that end, by the crate `reading`.
+pub fn examine<W: Width>(h: &[u8]) -> Result<SoundHeap<'_, W>, Refusal>
+    ensures { Examined W.BYTES h.now result }
 {
-    if !is_lent(w, h) {
-        return Verdict::Unfit(Refusal::BadLength);
+    if !is_lent::<W>(h) {
+        return Err(Refusal::BadLength);
     }
-    if word(MAGIC_BYTES, h, 0) != magic(w) {
-        return Verdict::Unfit(Refusal::NotOpened);
+    if Eight::word(h, 0) != magic::<W>() {
+        return Err(Refusal::NotOpened);
     }
-    let end = stored_end(w, h).0;
-    if !may_end(w, h.len(), Position(end)) {
-        return Verdict::Unfit(Refusal::NotSound);
+    if !may_end::<W>(h.len(), stored_end::<W>(h)) {
+        return Err(Refusal::NotSound);
     }
-    if !is_sound(w, &h[0..end]) {
-        return Verdict::Unfit(Refusal::NotSound);
+    let bytes = heap_of::<W>(h);
+    if !is_sound::<W>(bytes) {
+        return Err(Refusal::NotSound);
     }
-    Verdict::Fine
+    Ok(SoundHeap {
+        bytes,
+        width: PhantomData,
+    })
 }
 
 // Whether n bytes can be asked for.
-fn is_size(w: usize, n: usize) -> bool
-    ensures { Tells result (GoodSize (shape w) n) }
+fn is_size<W: Width>(n: usize) -> bool
+    ensures { Tells result (GoodSize (shape W.BYTES) n) }
 {
     if n == 0 {
         return false;
     }
-    n <= longest(w)
+    n <= longest::<W>()
 }
 
 // What `examine` finds, and then whether n bytes can be asked for.
-pub fn examine_for(w: usize, h: &[u8], n: usize) -> Verdict
-    requires { Width w }
-    ensures { ExaminedFor w h.now n result }
+pub fn examine_for<W: Width>(h: &[u8], n: usize) -> Result<SoundHeap<'_, W>, Refusal>
+    ensures { ExaminedFor W.BYTES h.now n result }
 {
-    let v = examine(w, h);
-    match v {
-        Verdict::Unfit(k) => Verdict::Unfit(k),
-        Verdict::Fine => {
-            if is_size(w, n) {
-                return Verdict::Fine;
-            }
-            Verdict::Unfit(Refusal::BadSize)
-        }
+    let heap = examine::<W>(h)?;
+    if !is_size::<W>(n) {
+        return Err(Refusal::BadSize);
     }
+    Ok(heap)
 }

@@ -1,12 +1,7 @@
 -- What each way through the search for a live address shows.
-use Prim.Native.Nat.{ℕ, ◌+◌, ◌-◌, ◌*◌, ◌/◌, ◌%◌, ◌≤◌, ◌<◌}
-use mathlib.Core.Path.{◌≡◌, refl, sym, ap, subst, ◌∙◌}
-use mathlib.Core.Bool.{Bool}
-use mathlib.Core.List.{List, [], ◌∷◌, ◌++◌, append-nil}
-use native.Mathlib.Nat.{mul-mod_left, div-add-mod', mul-div_cancel}
-use native.Mathlib.Omega.{arith}
-use native.Mathlib.Decide.{ℕ_discrete}
-use lib.ListN.{length, get_or}
+use Rattle.std.proofs.Common.{ℕ, ◌+◌, ◌-◌, ◌*◌, ◌/◌, ◌%◌, ◌≤◌, ◌<◌, ◌≡◌, refl, sym, ap, subst, ◌∙◌, Bool, List, [], ◌∷◌, ◌++◌, append-nil, div-add-mod', mul-div_cancel, arith, length, get_or, Some, None}
+use Rattle.std.proofs.Math.Nat.{mul-mod_left}
+use Rattle.std.proofs.Math.Decide.{ℕ_discrete}
 use Rattle.words.specs.Width.{Width}
 use Rattle.words.specs.Word.{word_at}
 use Rattle.model.specs.Shape.{shape, least_free, item_size, offset_of, end_of, start}
@@ -25,7 +20,7 @@ use Rattle.model.specs.Parts.{free_kind, variable_kind, size_in, kind_in, class_
 use Rattle.model.specs.inner.Walks.{flag, Standing}
 use Rattle.model.proofs.walks.Finding.{behinds, slots_below, find_past, find_below, find_at, find_not_at, find_free, find_page}
 use Rattle.model.proofs.items.Aligned.{next_aligned, class_read, SlotRead, slot_read, slots_none, laid}
-use Rattle.find.specs.declared.Live.TheVariants.{Nothing, Item, Variable}
+use Rattle.find.specs.declared.Live.TheVariants.{Item, Variable}
 use Rattle.find.specs.Find.{Finds, OnBlock, OnPage, behind_at, touches_at, Clear, Nearest}
 use Rattle.find.proofs.NearestLaws.{standing, behind_none, touches_free, touches_not, clear_past, gap}
 
@@ -39,7 +34,7 @@ module _ {w : ℕ} (wd : Width w) {b : List ℕ} {L : Layout} (h : Here (shape w
       ∙ ap (λ (q : ℕ). behinds s.pre (find_from (shape w) a q s.rest)) s.begins
 
 -- nothing is live behind the end
-pub found_behind : {w : ℕ} → Width w → (b : List ℕ) (L : Layout) (a : ℕ) → Here (shape w) b L → end_of (length b) ≤ a → Finds w L a Nothing
+pub found_behind : {w : ℕ} → Width w → (b : List ℕ) (L : Layout) (a : ℕ) → Here (shape w) b L → end_of (length b) ≤ a → Finds w L a None
 unfolding Finds find_from
 found_behind {w} wd b L a h l =
     let e : find (shape w) a L ≡ find_from (shape w) a (start (shape w)) (L.blocks ++ []) = ap (λ (l : List Block). find_from (shape w) a (start (shape w)) l) (sym (append-nil L.blocks)) in
@@ -52,13 +47,13 @@ module _ {w : ℕ} {b : List ℕ} {p t prev : ℕ} {touching : Bool} {a : ℕ} (
   found_rest : (r : List Block) → stands.rest ≡ r → find (shape w) a L ≡ behinds stands.pre (find_from (shape w) a p r)
   found_rest r e = find_from_lem o.width h stands a o.from ∙ ap (λ (l : List Block). behinds stands.pre (find_from (shape w) a p l)) e
 
-  pub found_in_free : kind_in t ≡ free_kind → Finds w L a Nothing
+  pub found_in_free : kind_in t ≡ free_kind → Finds w L a None
   unfolding Finds
   found_in_free z =
       let r = is_free o.width (laid o.width h) stands t o.tag (omega (arith, o.from, o.below)) z in
       found_rest (free (t / 8 * 8) ∷ r.0) r.1 ∙ ap (λ (f : Found). behinds stands.pre f) (find_free (shape w) (shape_good o.width) a p (t / 8 * 8) r.0 o.reach)
 
-  pub found_elsewhere : kind_in t ≡ variable_kind → (a ≡ p + w → ⊥) → Finds w L a Nothing
+  pub found_elsewhere : kind_in t ≡ variable_kind → (a ≡ p + w → ⊥) → Finds w L a None
   unfolding Finds
   found_elsewhere z n =
       let r = is_variable_lem o.width (laid o.width h) stands t o.tag (omega (arith, o.from, o.below)) z in
@@ -66,7 +61,7 @@ module _ {w : ℕ} {b : List ℕ} {p t prev : ℕ} {touching : Bool} {a : ℕ} (
       ∙ ap (λ (f : Found). behinds stands.pre f) (find_not_at (shape w) (shape_good o.width) a p (t / 8 * 8) r.0 n o.reach)
 
   pub found_variable : (at before : Position) (size : ℕ) → at.0 ≡ p → before.0 ≡ prev → size ≡ size_in t → kind_in t ≡ variable_kind → a ≡ p + w
-      → Finds w L a (Variable (record { at = at; size = size; prev = before; touching = touching }))
+      → Finds w L a (Some (Variable (record { at = at; size = size; prev = before; touching = touching })))
   unfolding Finds
   found_variable at before size ea eb es z e =
       let r = is_variable_lem o.width (laid o.width h) stands t o.tag (omega (arith, o.from, o.below)) z in
@@ -126,7 +121,7 @@ module _ {w : ℕ} {b : List ℕ} {p a : ℕ} (o : OnPage w b p a) (L : Layout) 
       ∙ ap (λ (g : Found). behinds (stands on L h).pre g)
       (find_page (shape w) (shape_good on.width) a p there.class there.spare there.slots there.after (omega (arith, on.reach, there.size)) ∙ e)
 
-  pub page_low : a < p + 2 * w → Finds w L a Nothing
+  pub page_low : a < p + 2 * w → Finds w L a None
   unfolding Finds
   page_low l = in_slots_lem nothing (slots_below (shape w) (shape_good on.width) a class (p + w) there.slots (omega arith))
 
@@ -145,12 +140,12 @@ module _ {w : ℕ} {b : List ℕ} {p a : ℕ} (o : OnPage w b p a) (L : Layout) 
     whole : (i : ℕ) → a ≡ p + w + i * item_size (shape w) class + w → i * s ≡ d
     whole i e = rw (size_same, ed) (omega arith)
 
-    pub page_uneven : (d % s ≡ 0 → ⊥) → Finds w L a Nothing
+    pub page_uneven : (d % s ≡ 0 → ⊥) → Finds w L a None
     unfolding Finds
     page_uneven z =
         in_slots_lem nothing (slots_none on.width a class (p + w) there.slots (λ i l e. z (ap (λ (x : ℕ). x % s) (sym (whole i e)) ∙ mul-mod_left i s)))
 
-    pub page_over : n ≤ d / s → Finds w L a Nothing
+    pub page_over : n ≤ d / s → Finds w L a None
     unfolding Finds
     page_over z = in_slots_lem nothing (slots_none on.width a class (p + w) there.slots (λ i l e. omega (arith, count_same, quotient i e)))
       where
@@ -167,11 +162,11 @@ module _ {w : ℕ} {b : List ℕ} {p a : ℕ} (o : OnPage w b p a) (L : Layout) 
           let g : d / s * item_size (shape w) class ≡ d = ap (λ (x : ℕ). d / s * x) (sym size_same) ∙ e in
           slot_read on.width b (get_or L.lists class []) class class_few aligned a (p + w) (d / s) there.slots (omega (arith, count_same)) (omega (arith, g, ed)) slots_shown
 
-      pub page_idle : (flags_in x ≡ held_flags → ⊥) → Finds w L a Nothing
+      pub page_idle : (flags_in x ≡ held_flags → ⊥) → Finds w L a None
       unfolding Finds
       page_idle z = in_slots_lem nothing (read.not_in_use (λ e. z (ap flags_in ew ∙ e)))
 
-      pub page_held : flags_in x ≡ held_flags → (n : ℕ) → n ≡ asked_in x → Finds w L a (Item q c n)
+      pub page_held : flags_in x ≡ held_flags → (n : ℕ) → n ≡ asked_in x → Finds w L a (Some (Item q c n))
       unfolding Finds
       page_held z n en =
           (omega (arith, start_low, eq), in_slots_lem (thing (offset_of (shape w) (a - w)) class (asked_in (word_at w b (a - w)))) (read.in_use (ap flags_in (sym ew) ∙ z)) ∙ rw (eq, class_same, en, ew) refl)
@@ -180,16 +175,16 @@ module _ {w : ℕ} {b : List ℕ} {p a : ℕ} (o : OnPage w b p a) (L : Layout) 
           start_low = omega (arith, (stands on L h).begins, le_ends (shape w) (start (shape w)) (stands on L h).pre)
 
 -- nothing is live before the data area
-pub found_before : {w : ℕ} → Width w → (L : Layout) (a : ℕ) → a < (start (shape w)) → Finds w L a Nothing
+pub found_before : {w : ℕ} → Width w → (L : Layout) (a : ℕ) → a < (start (shape w)) → Finds w L a None
 unfolding Finds
 found_before {w} wd L a l = find_below (shape w) (shape_good wd) a (start (shape w)) L.blocks (omega arith)
 
 -- nor in a free block
-pub found_gap : {w : ℕ} (wd : Width w) {b : List ℕ} (L : Layout) (h : Here (shape w) b L) (a prev begin : ℕ) → Nearest w b L a prev → begin ≡ behind_at w b prev → start (shape w) ≤ a → a < begin → Finds w L a Nothing
+pub found_gap : {w : ℕ} (wd : Width w) {b : List ℕ} (L : Layout) (h : Here (shape w) b L) (a prev begin : ℕ) → Nearest w b L a prev → begin ≡ behind_at w b prev → start (shape w) ≤ a → a < begin → Finds w L a None
 unfolding Finds
 found_gap {w} wd {b} L h a prev begin n e l m = go (ℕ_discrete prev 0)
   where
-    go : Dec (prev ≡ 0) → Finds w L a Nothing
+    go : Dec (prev ≡ 0) → Finds w L a None
     go (yes z) = absurd (omega (arith, e, behind_none w b prev z))
     go (no z) =
         let g = gap (rw (touches_free prev (behind_at w b prev) z) at n.clear.between) in

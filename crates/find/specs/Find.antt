@@ -1,5 +1,5 @@
 -- What the search for a live address asks and promises.
-use Rattle.std.specs.Prelude.{ℕ, ◌+◌, ◌≤◌, ◌<◌, ◌≡◌, ◌⊎◌, Bool, false, cond, List, length, eqb}
+use Rattle.std.specs.Prelude.{Option, Some, None, ℕ, ◌+◌, ◌≤◌, ◌<◌, ◌≡◌, ◌⊎◌, Bool, false, cond, List, length, eqb}
 use Rattle.words.specs.Width.{Width}
 use Rattle.words.specs.Word.{word_at}
 use Rattle.model.specs.Shape.{shape, offset_of, end_of, index, start}
@@ -10,7 +10,7 @@ use Rattle.model.specs.Rules.{Spot, block, thing, nothing, find}
 use Rattle.model.specs.inner.Walks.{flag, last_free, ends_free, Standing, Passed}
 use Rattle.find.specs.declared.UsedBlock.{UsedBlock}
 use Rattle.find.specs.declared.Live.{Live}
-use Rattle.find.specs.declared.Live.TheVariants.{Nothing, Item, Variable}
+use Rattle.find.specs.declared.Live.TheVariants.{Item, Variable}
 
 -- x is the variable block of the spot t, found at a
 pub record BlockFound (w : ℕ) (L : Layout) (a : ℕ) (t : Spot) (x : UsedBlock) : Type 0 where
@@ -21,10 +21,10 @@ pub record BlockFound (w : ℕ) (L : Layout) (a : ℕ) (t : Spot) (x : UsedBlock
   pub touches : ends_free 0 t.pre ≡ flag x.touching
 
 -- an answer says what is found at a
-unfoldable pub Finds : ℕ → Layout → ℕ → Live → Type 0
-Finds w L a Nothing = find (shape w) a L ≡ nothing
-Finds w L a (Item q c n) = (index (shape w) ≤ q.0) × (find (shape w) a L ≡ thing (offset_of (shape w) q.0) c n)
-Finds w L a (Variable x) = (t : Spot) × BlockFound w L a t x
+unfoldable pub Finds : ℕ → Layout → ℕ → Option Live → Type 0
+Finds w L a None = find (shape w) a L ≡ nothing
+Finds w L a (Some (Item q c n)) = (index (shape w) ≤ q.0) × (find (shape w) a L ≡ thing (offset_of (shape w) q.0) c n)
+Finds w L a (Some (Variable x)) = (t : Spot) × BlockFound w L a t x
 
 -- the walk stands at p, and the block there, of tag t, reaches past the address a
 pub record OnBlock (w : ℕ) (b : List ℕ) (p t prev : ℕ) (touching : Bool) (a : ℕ) : Type 0 where

@@ -1,6 +1,7 @@
 -- Laws of the count along one item list: what a test tells of the list.
-use Rattle.std.proofs.Common.{◌≡◌, ℕ, ◌+◌, ◌-◌, ◌%◌, ◌^◌, ◌<◌, ◌≤◌, cond, eqb, List, [], ◌∷◌, length, sym, refl, ap, ◌∙◌, arith, eq-eqb, ne_eqb}
-use native.Mathlib.Decide.{ℕ_discrete}
+use Rattle.std.proofs.Common.{◌≡◌, ℕ, ◌+◌, ◌-◌, ◌%◌, ◌^◌, ◌<◌, ◌≤◌, cond, eqb, List, [], ◌∷◌, length, Option, Some, None, sym, refl, ap, ◌∙◌, arith, eq-eqb, ne_eqb}
+use Rattle.std.proofs.Math.Decide.{ℕ_discrete}
+use Rattle.std.proofs.lemmas.Option.{none-some, same_Some}
 use Rattle.words.specs.Width.{Width}
 use Rattle.words.specs.Word.{word_at}
 use Rattle.words.specs.Bits.{bit_at}
@@ -12,9 +13,6 @@ use Rattle.model.proofs.Sizes.{zero_even}
 use Rattle.marking.specs.Maps.{offset_bit, offset_at_bit, at_bit}
 use Rattle.following.specs.Lists.{FreeItemAt, named, Chain, ListCounted}
 use Rattle.following.specs.Told.{NextBit, ListTold}
-use Rattle.marking.specs.declared.map.Marks.{Marks}
-use Rattle.marking.specs.declared.map.Marks.TheVariants.{Unsound, Count}
-use Rattle.marking.proofs.Counts.{no_count, count_no, count_same}
 use Rattle.marking.proofs.Places.{offset_none, offset_back, offset_zero, offset_even, bit_is, next_even}
 
 -- the count of a list's items stands at the item of bit i, or at the end, with n left; or, where an item was of another class, beyond every map
@@ -23,23 +21,23 @@ pub record ListInv (w : ℕ) (b : List ℕ) (end c o : ℕ) (m : List ℕ) (befo
   pub ahead : (r : ℕ) → ListCounted w b end c o m before r → ListCounted w b end c (offset_at_bit w i) m n r
   pub back : i < 2 ^ 32 → (r : ℕ) → ListCounted w b end c (offset_at_bit w i) m n r → ListCounted w b end c o m before r
 
-list_no : {w : ℕ} {b : List ℕ} {end c o : ℕ} {m : List ℕ} {n : ℕ} → ((r : ℕ) → ListCounted w b end c o m n r → ⊥) → ListTold w b end c o m n Unsound
-list_no f = record { is_no = λ _. f; is_yes = λ r y. absurd (no_count y) }
+list_no : {w : ℕ} {b : List ℕ} {end c o : ℕ} {m : List ℕ} {n : ℕ} → ((r : ℕ) → ListCounted w b end c o m n r → ⊥) → ListTold w b end c o m n None
+list_no f = record { is_no = λ _. f; is_yes = λ r y. absurd (none-some _ y) }
 
-list_ends : {w : ℕ} {b : List ℕ} {end c o : ℕ} {m : List ℕ} {n r : ℕ} → ListCounted w b end c o m n r → ListTold w b end c o m n (Count r)
-list_ends k = record { is_no = λ y. absurd (count_no y); is_yes = λ r y. rw (← count_same y) k }
+list_ends : {w : ℕ} {b : List ℕ} {end c o : ℕ} {m : List ℕ} {n r : ℕ} → ListCounted w b end c o m n r → ListTold w b end c o m n (Some r)
+list_ends k = record { is_no = λ y. absurd (none-some _ (sym y)); is_yes = λ r y. rw (← same_Some _ _ y) k }
 
 -- told of the head that was read
-pub list_from : {w : ℕ} {b : List ℕ} {end c : ℕ} {m : List ℕ} {n : ℕ} {r : Marks} (o p q : ℕ) → o ≡ word_at w b p → p ≡ q → ListTold w b end c o m n r → ListTold w b end c (word_at w b q) m n r
+pub list_from : {w : ℕ} {b : List ℕ} {end c : ℕ} {m : List ℕ} {n : ℕ} {r : Option ℕ} (o p q : ℕ) → o ≡ word_at w b p → p ≡ q → ListTold w b end c o m n r → ListTold w b end c (word_at w b q) m n r
 list_from {w} {b} o p q e f t = rw (← (e ∙ ap (λ (x : ℕ). word_at w b x) f)) t
 
 -- a list with no items
-pub list_none : {w : ℕ} {b : List ℕ} {end c o : ℕ} {m : List ℕ} {n : ℕ} → o ≡ 0 → ListTold w b end c o m n (Count n)
+pub list_none : {w : ℕ} {b : List ℕ} {end c o : ℕ} {m : List ℕ} {n : ℕ} → o ≡ 0 → ListTold w b end c o m n (Some n)
 unfolding Chain times
 list_none e = list_ends (record { list = []; chain = e; set = λ x q. absurd (omega arith); count = omega arith })
 
 -- a list that begins with an item, where there is no mark
-pub list_any : {w : ℕ} {b : List ℕ} {end c o n : ℕ} → (o ≡ 0 → ⊥) → ListTold w b end c o [] n Unsound
+pub list_any : {w : ℕ} {b : List ℕ} {end c o n : ℕ} → (o ≡ 0 → ⊥) → ListTold w b end c o [] n None
 unfolding Chain times
 list_any {w} {b} {end} {c} {o} f = list_no (λ s r. go r.list r.chain r.set)
   where
@@ -48,7 +46,7 @@ list_any {w} {b} {end} {c} {o} f = list_no (λ s r. go r.list r.chain r.set)
     go (x ∷ xs) h g = omega (arith, g x (rw (eq-eqb x x refl) (omega arith)), beyond_clear [] (offset_bit w x) (omega arith))
 
 -- a head that is no whole number of words
-pub list_head : {w : ℕ} → Width w → {b : List ℕ} {end c o : ℕ} {m : List ℕ} {n : ℕ} → (o % w ≡ 0 → ⊥) → ListTold w b end c o m n Unsound
+pub list_head : {w : ℕ} → Width w → {b : List ℕ} {end c o : ℕ} {m : List ℕ} {n : ℕ} → (o % w ≡ 0 → ⊥) → ListTold w b end c o m n None
 unfolding Chain
 list_head {w} wd {b} {end} {c} {o} f = list_no (λ s r. go r.list r.chain)
   where
@@ -56,13 +54,14 @@ list_head {w} wd {b} {end} {c} {o} f = list_no (λ s r. go r.list r.chain)
     go [] h = f (zero_even wd o h)
     go (x ∷ xs) h = f (rw h.0 h.1.even)
 
-pub list_start : {w : ℕ} → Width w → {b : List ℕ} {end c o : ℕ} {m : List ℕ} {n i : ℕ} → o % w ≡ 0 → i ≡ offset_bit w o → ListInv w b end c o m n n i
-list_start {w} wd {b} {end} {c} {o} e ei =
+-- a list whose head o was read begins at the item of bit i
+pub list_start : {w : ℕ} → Width w → {b : List ℕ} {end c : ℕ} {m : List ℕ} {n i : ℕ} (o p q : ℕ) → o ≡ word_at w b p → p ≡ q → o % w ≡ 0 → i ≡ offset_bit w o → ListInv w b end c (word_at w b q) m n n i
+list_start {w} wd {b} o p q eo ep e ei =
     let f : offset_at_bit w (offset_bit w o) ≡ o = offset_back wd o e in
-    rw ei (record { width = wd; ahead = λ s r. rw f r; back = λ _ s r. rw f at r })
+    rw (← (eo ∙ ap (λ (x : ℕ). word_at w b x) ep), ei) (record { width = wd; ahead = λ s r. rw f r; back = λ _ s r. rw f at r })
 
 module _ {w : ℕ} {b : List ℕ} {end c o : ℕ} {m : List ℕ} {before n i : ℕ} (v : ListInv w b end c o m before n i) where
-  pub list_done : i ≡ 0 → ListTold w b end c o m before (Count n)
+  pub list_done : i ≡ 0 → ListTold w b end c o m before (Some n)
   unfolding Chain times
   list_done e = list_ends (v.back (omega arith) n (record { list = []; chain = rw e (offset_none v.width); set = λ x q. absurd (omega arith); count = omega arith }))
 
@@ -92,14 +91,14 @@ module _ {w : ℕ} {b : List ℕ} {end c o : ℕ} {m : List ℕ} {before n i : �
               next = record { list = xs; chain = rw h.0 h.2; set = λ y q. g y (omega arith); count = omega arith };
             }
 
-    fail : ((s : ℕ) → Head s → ⊥) → ListTold w b end c o m before Unsound
+    fail : ((s : ℕ) → Head s → ⊥) → ListTold w b end c o m before None
     fail f = list_no (λ s r. f s (head_of_lem s (v.ahead s r)))
 
     -- an item that is not marked, and an item too many
-    pub list_clear : bit_at m i ≡ 0 → ListTold w b end c o m before Unsound
+    pub list_clear : bit_at m i ≡ 0 → ListTold w b end c o m before None
     list_clear f = fail (λ s y. omega (arith, y.set))
 
-    pub list_over : n ≡ 0 → ListTold w b end c o m before Unsound
+    pub list_over : n ≡ 0 → ListTold w b end c o m before None
     list_over h = fail (λ s y. omega (arith, y.more))
 
     -- x is the item's header, and j the bit of the item that it names

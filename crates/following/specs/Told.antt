@@ -1,10 +1,8 @@
--- What the count along one item list asks and tells: how many marks are left, or that the heap is not sound.
-use Rattle.std.specs.Prelude.{◌≡◌, ℕ, ◌^◌, ◌≤◌, List, length, ◌≢◌}
+-- What the count along one item list asks and tells: how many marks are left, or nothing where the heap is not sound.
+use Rattle.std.specs.Prelude.{◌≡◌, ℕ, ◌^◌, ◌≤◌, List, length, ◌≢◌, Option, Some, None}
 use Rattle.words.specs.Bits.{bit_at}
 use Rattle.model.specs.Shape.{shape, end_of}
 use Rattle.model.specs.Parts.{free_mark, class_and_flags, next_in}
-use Rattle.marking.specs.declared.map.Marks.{Marks}
-use Rattle.marking.specs.declared.map.Marks.TheVariants.{Unsound, Count}
 use Rattle.marking.specs.Told.{Sizes, MapSize}
 use Rattle.marking.specs.Maps.{NoMarks, offset_bit}
 use Rattle.following.specs.Lists.{ListCounted}
@@ -22,6 +20,6 @@ pub record ListRoom (w : ℕ) (b m : List ℕ) : Type 0 where
   pub none : bit_at m 0 ≡ 0
 
 -- the list of class c, which begins at o, with n to be counted
-pub record ListTold (w : ℕ) (b : List ℕ) (end c o : ℕ) (m : List ℕ) (n : ℕ) (a : Marks) : Type 0 where
-  pub is_no : a ≡ Unsound → (r : ℕ) → ListCounted w b end c o m n r → ⊥
-  pub is_yes : (r : ℕ) → a ≡ Count r → ListCounted w b end c o m n r
+pub record ListTold (w : ℕ) (b : List ℕ) (end c o : ℕ) (m : List ℕ) (n : ℕ) (a : Option ℕ) : Type 0 where
+  pub is_no : a ≡ None → (r : ℕ) → ListCounted w b end c o m n r → ⊥
+  pub is_yes : (r : ℕ) → a ≡ Some r → ListCounted w b end c o m n r

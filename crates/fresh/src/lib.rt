@@ -2,7 +2,6 @@
 #![tactic(auto)]
 
 ghost use Rattle.std.specs.Prelude.{◌≡◌, ◌≤◌, length, replicate, []};
-ghost use Rattle.words.specs.Width.{Width};
 ghost use Rattle.words.specs.Word.{put};
 ghost use Rattle.model.specs.Shape.{shape, index, shortest, end_of};
 ghost use Rattle.model.specs.Parts.{magic_bytes};
@@ -14,55 +13,52 @@ ghost use Rattle.fresh.specs.Fresh.{EndRoom, before_heads, after_heads};
 
 use links::put_free;
 use model::{
-    MAGIC_BYTES, Position, classes, data_at, end_at, end_of, first_free_at, head_at, index,
-    index_at, index_far_tag_at, index_tag, index_tag_at, magic, start,
+    Position, classes, data_at, end_at, end_of, first_free_at, head_at, index, index_at,
+    index_far_tag_at, index_tag, index_tag_at, magic, start,
 };
-use words::put_word;
+use words::{Eight, Width};
 
-// The header's words, up to the index page. The magic number has eight bytes at every word size.
-fn write_header(w: usize, h: &mut [u8], end: Position)
-    requires { Width w × (shortest (shape w) ≤ length h.old) }
-    ensures { h.new ≡ draw w (before_heads w end.0) (put magic_bytes h.old 0 (shape w).magic) }
+// The header's words, up to the index page. The magic number has eight bytes at every width.
+fn write_header<W: Width>(h: &mut [u8], end: Position)
+    requires { shortest (shape W.BYTES) ≤ length h.old }
+    ensures { h.new ≡ draw W.BYTES (before_heads W.BYTES end.0) (put magic_bytes h.old 0 (shape W.BYTES).magic) }
 {
-    let data = start(w);
-    put_word(MAGIC_BYTES, h, 0, magic(w));
-    put_word(w, h, data_at(w).0, data.0);
-    put_word(w, h, index_at(w).0, index(w).0);
-    put_word(w, h, first_free_at(w).0, data.0);
-    put_word(w, h, end_at(w).0, end.0);
-    put_word(w, h, index_tag_at(w).0, index_tag(w));
+    let data = start::<W>();
+    Eight::put_word(h, 0, magic::<W>());
+    W::put_word(h, data_at::<W>().0, data.0);
+    W::put_word(h, index_at::<W>().0, index::<W>().0);
+    W::put_word(h, first_free_at::<W>().0, data.0);
+    W::put_word(h, end_at::<W>().0, end.0);
+    W::put_word(h, index_tag_at::<W>().0, index_tag::<W>());
 }
 
 // The index page: every list is empty.
-fn write_heads(w: usize, h: &mut [u8])
-    requires { Width w × (shortest (shape w) ≤ length h.old) }
-    ensures { h.new ≡ draw w (head_words (shape w) (index (shape w)) (replicate (shape w).classes [])) h.old }
+fn write_heads<W: Width>(h: &mut [u8])
+    requires { shortest (shape W.BYTES) ≤ length h.old }
+    ensures { h.new ≡ draw W.BYTES (head_words (shape W.BYTES) (index (shape W.BYTES)) (replicate (shape W.BYTES).classes [])) h.old }
 {
-    let n = classes(w);
-    let mut c = 0;
-    while c < n {
-        put_word(w, h, head_at(w, c).0, 0);
-        c += 1;
+    for c in 0..classes::<W>() {
+        W::put_word(h, head_at::<W>(c).0, 0);
     }
 }
 
 // The index page's far tag, and the one free block.
-fn write_block(w: usize, h: &mut [u8], end: Position)
-    requires { EndRoom w (length h.old) end.0 }
-    ensures { h.new ≡ draw w (after_heads w end.0) h.old }
+fn write_block<W: Width>(h: &mut [u8], end: Position)
+    requires { EndRoom W.BYTES (length h.old) end.0 }
+    ensures { h.new ≡ draw W.BYTES (after_heads W.BYTES end.0) h.old }
 {
-    let data = start(w);
-    put_word(w, h, index_far_tag_at(w).0, index_tag(w));
-    put_free(w, h, data, end.0 - data.0, Position(0), Position(0));
+    let data = start::<W>();
+    W::put_word(h, index_far_tag_at::<W>().0, index_tag::<W>());
+    put_free::<W>(h, data, end.0 - data.0, Position(0), Position(0));
 }
 
 // Opens a heap over any bytes.
-pub fn lay(w: usize, h: &mut [u8])
-    requires { Width w × Lent (shape w) h.old }
-    ensures { h.new ≡ drawn (shape w) (fresh (shape w) (end_of (length h.old))) (put magic_bytes h.old 0 (shape w).magic) }
+pub fn lay<W: Width>(h: &mut [u8])
+    requires { Lent (shape W.BYTES) h.old }
+    ensures { h.new ≡ drawn (shape W.BYTES) (fresh (shape W.BYTES) (end_of (length h.old))) (put magic_bytes h.old 0 (shape W.BYTES).magic) }
 {
     let end = end_of(h.len());
-    write_header(w, h, end);
-    write_heads(w, h);
-    write_block(w, h, end);
+    write_header::<W>(h, end);
+    write_heads::<W>(h);
+    write_block::<W>(h, end);
 }

@@ -1,17 +1,11 @@
 -- A heap that grows: when it cannot, and what is written where it does.
-use Prim.Native.Nat.{ℕ, ◌+◌, ◌-◌, ◌%◌, ◌≤◌, ◌<◌}
-use mathlib.Core.Path.{◌≡◌, refl, sym, ap, ap₂, subst, ◌∙◌}
-use mathlib.Core.Bool.{Bool, true, false}
-use mathlib.Core.List.{List, [], ◌∷◌, ◌++◌, append-nil}
-use mathlib.Core.Option.{none}
-use native.Mathlib.Omega.{arith}
-use native.Mathlib.Decide.{dec_lt}
-use lib.ListN.{length, get_or, take, drop}
-use lib.Seq.{length-take-le, get_or-take}
+use Rattle.std.proofs.Common.{Option, ℕ, ◌+◌, ◌-◌, ◌%◌, ◌≤◌, ◌<◌, ◌≡◌, refl, sym, ap, ap₂, subst, ◌∙◌, Bool, true, false, List, [], ◌∷◌, ◌++◌, append-nil, Some, None, arith, length, get_or, take, drop, length-take-le, get_or-take, leb, le-leb, leb-true}
+use Rattle.std.proofs.Math.Option.{none}
+use Rattle.model.specs.declared.Position.{Position}
+use Rattle.std.proofs.Math.Decide.{dec_lt}
 use Rattle.words.specs.Width.{Width}
 use Rattle.words.specs.Word.{put, Bytes}
-use lib.Dec.{leb}
-use borrow.Author.Tests.{le-leb, lt-leb, leb-true}
+use Rattle.std.proofs.lemmas.Bool.{lt-leb}
 use Rattle.model.specs.Shape.{shape, start, end_of, largest_item, class_of, page_need, need_of}
 use Rattle.model.specs.Parts.{end_at}
 use Rattle.model.specs.Picture.{Shows, draw}
@@ -151,20 +145,20 @@ module _ {w : ℕ} (b : List ℕ) (x : Holding w b) (n : ℕ) (asked : Asked w n
 
   module _ (end : ℕ) (k : end ≡ stored_end (shape w) b) where
     -- it cannot: it ends with its buffer; or there are not 8 bytes more; or not so many as it needs
-    ends_there : (shape w).grows ≡ false → Grown w b n 0 b
+    ends_there : (shape w).grows ≡ false → Grown w b n None b
     ends_there g = record { grows = λ L h f r. absurd (omega (arith, further L h f, r, rw g at h.ended.0)); stays = λ L h f r. (refl, refl) }
 
-    too_near : length b - end < 8 → Grown w b n 0 b
+    too_near : length b - end < 8 → Grown w b n None b
     too_near l = record { grows = λ L h f r. absurd (omega (arith, further L h f, r, eight L h, h.ended.2, l, k, inside)); stays = λ L h f r. (refl, refl) }
 
-    pub ends_with : (RoomToGrow w (length b) end → ⊥) → Grown w b n 0 b
+    pub ends_with : (RoomToGrow w (length b) end → ⊥) → Grown w b n None b
     ends_with f = go (shape w).grows refl
       where
-        go : (v : Bool) → (shape w).grows ≡ v → Grown w b n 0 b
+        go : (v : Bool) → (shape w).grows ≡ v → Grown w b n None b
         go false g = ends_there g
         go true g = near (dec_lt (length b - end) 8)
           where
-            near : Dec (length b - end < 8) → Grown w b n 0 b
+            near : Dec (length b - end < 8) → Grown w b n None b
             near (yes l) = too_near l
             near (no l) = absurd (f (g, omega (arith, l, k, inside)))
 
@@ -182,7 +176,7 @@ module _ {w : ℕ} (b : List ℕ) (x : Holding w b) (n : ℕ) (asked : Asked w n
       pub edge_within : from ≤ length b
       edge_within = from_within
 
-      pub too_little : length b - from < need → Grown w b n 0 b
+      pub too_little : length b - from < need → Grown w b n None b
       too_little l = record { grows = λ L h f r. absurd (omega (arith, to_is L h from own_edge, r, l, i, from_within)); stays = λ L h f r. (refl, refl) }
 
       module _ (room : need ≤ length b - from) (before : ℕ) (z : FreeBefore w (take (end - 0) b) before) where
@@ -214,14 +208,14 @@ module _ {w : ℕ} (b : List ℕ) (x : Holding w b) (n : ℕ) (asked : Asked w n
             plain v = omega arith
 
         -- where it can
-        pub grown_there : Bytes b → (c : List ℕ) → c ≡ extended_bytes w (take (from + need - 0) b) from before → Grown w b n (from + need) (c ++ drop (from + need - 0) b)
+        pub grown_there : Bytes b → (c : List ℕ) → c ≡ extended_bytes w (take (from + need - 0) b) from before → Grown w b n (Some (record { 0 = from + need })) (c ++ drop (from + need - 0) b)
         grown_there bytes c v = record { grows = λ L h f r. does L h f; stays = λ L h f r. absurd (omega (arith, to_is L h from own_edge, r, i, to_within, eight L h)) }
           where
             plain : from + need - 0 ≡ from + need
             plain = omega arith
 
             does : (L : Layout) (h : HereIn (shape w) b L) → allocate (shape w) n L ≡ none
-                → (from + need ≡ end_in (shape w) (longer (shape w) n L)) × (c ++ drop (from + need - 0) b ≡ fronted (drawn (shape w) (longer (shape w) n L) (take (from + need) b)) b)
+                → (◌≡◌ {A = Option Position} (Some (record { 0 = from + need })) (Some (record { 0 = end_in (shape w) (longer (shape w) n L) }))) × (c ++ drop (from + need - 0) b ≡ fronted (drawn (shape w) (longer (shape w) n L) (take (end_in (shape w) (longer (shape w) n L)) b)) b)
             does L h f =
                 let t : from + need ≡ end_in (shape w) (longer (shape w) n L) = sym (to_is L h from own_edge ∙ ap (λ (y : ℕ). from + y) (sym i)) in
                 let fp = own_edge.is L h.here (pre L h) (old L h) (edged L h) in
@@ -232,4 +226,4 @@ module _ {w : ℕ} (b : List ℕ) (x : Holding w b) (n : ℕ) (asked : Asked w n
                 v ∙ ap (λ (y : ℕ). extended_bytes w (take y b) from before) plain
                 ∙ ap₂ (λ (y q : ℕ). extended_bytes w (take (from + need) b) y q) fp bp
                 ∙ grown_bytes_lem L h (from + need) (omega (arith, further L h f, t)) to_within bytes f t in
-                (t, ap₂ (λ (q : List ℕ) (y : ℕ). q ++ drop y b) is (plain ∙ sym long))
+                (ap {B = Option Position} (λ (y : ℕ). Some (record { 0 = y })) t, ap₂ (λ (q : List ℕ) (y : ℕ). q ++ drop y b) is (plain ∙ sym long) ∙ ap (λ (y : ℕ). fronted (drawn (shape w) (longer (shape w) n L) (take y b)) b) t)

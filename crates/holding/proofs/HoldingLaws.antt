@@ -1,9 +1,7 @@
 -- What each way through a measure of what is live shows.
-use Prim.Native.Nat.{ℕ, ◌+◌, ◌≤◌, ◌<◌}
-use mathlib.Core.Path.{◌≡◌, refl, sym, ap, subst, ◌∙◌}
-use mathlib.Core.List.{List}
-use native.Mathlib.Omega.{arith}
-use lib.ListN.{length}
+use Rattle.std.proofs.Common.{ℕ, ◌+◌, ◌≤◌, ◌<◌, ◌≡◌, refl, sym, ap, ◌∙◌, List, arith, Option, Some, None, length}
+use Rattle.std.proofs.Math.Decide.{ℕ_discrete}
+use Rattle.std.proofs.lemmas.Option.{none-some, same_Some}
 use Rattle.words.specs.Width.{Width}
 use Rattle.model.specs.Shape.{shape, offset_of, end_of, least_variable, start}
 use Rattle.model.specs.Layout.{Layout, ends}
@@ -13,15 +11,25 @@ use Rattle.model.proofs.items.Asked.{shown_some}
 use Rattle.model.proofs.lives.Holding.{EndsBy, find_by, shown_most}
 use Rattle.model.specs.declared.Position.{Position}
 use Rattle.find.specs.declared.UsedBlock.{UsedBlock}
-use Rattle.find.specs.declared.Live.{Live}
-use Rattle.find.specs.declared.Live.TheVariants.{Nothing, Item, Variable}
+use Rattle.find.specs.declared.Live.TheVariants.{Item, Variable}
 use Rattle.find.specs.Find.{Finds}
-use Rattle.holding.specs.Holding.{Holds}
+use Rattle.holding.specs.Holding.{measured, Holds}
 
 -- of what stands within a heap a measure is 0 only for nothing, and never above the capacity
 pub record Measures (w : ℕ) (measure : Found → ℕ) : Type 0 where
   pub none : (a hi : ℕ) (g : Found) → EndsBy w a hi g → measure g ≡ 0 → g ≡ nothing
   pub most : (a hi : ℕ) (g : Found) → EndsBy w a hi g → measure g ≤ capacity (shape w) g
+
+-- what a measure's answer says of what is found
+pub measured_none : (measure : Found → ℕ) (g : Found) → measured measure g ≡ None → g ≡ nothing
+measured_none measure nothing e = refl
+measured_none measure (block t) e = absurd (none-some _ (sym e))
+measured_none measure (thing o c n) e = absurd (none-some _ (sym e))
+
+pub measured_some : (measure : Found → ℕ) (g : Found) (n : ℕ) → measured measure g ≡ Some n → (measure g ≡ n) × (g ≡ nothing → ⊥)
+measured_some measure nothing n e = absurd (none-some n e)
+measured_some measure (block t) n e = (same_Some _ n e, λ z. none-some _ (sym (ap (measured measure) z)))
+measured_some measure (thing o c m) n e = (same_Some _ n e, λ z. none-some _ (sym (ap (measured measure) z)))
 
 module _ {w : ℕ} (wd : Width w) where
   shown_none : (a hi : ℕ) (g : Found) → EndsBy w a hi g → shown_of (shape w) g ≡ 0 → g ≡ nothing
@@ -51,46 +59,53 @@ module _ {w : ℕ} (wd : Width w) where
         let z : EndsBy w a (ends (shape w) (start (shape w)) L.blocks) (find (shape w) a L) = find_by wd a (start (shape w)) L.blocks h.valid.allowed in
         rw (e, h.valid.fills) at z
 
-    -- a number that is the measure of what is found is as promised
-    holds : {measure : Found → ℕ} → Measures w measure → Sound (shape w) b → (r : ℕ) → ((L : Layout) → Here (shape w) b L → r ≡ measure (find (shape w) a L)) → Holds w measure b a r
+    -- an answer that is the measure of what is found is as promised
+    holds : {measure : Found → ℕ} → Measures w measure → Sound (shape w) b → (r : Option ℕ) → ((L : Layout) → Here (shape w) b L → r ≡ measured measure (find (shape w) a L)) → Holds w measure b a r
     holds {measure} ms k r is =
         record {
           answer = is;
-          none = λ z L h. ms.none a (end_of (length b)) (find (shape w) a L) (ends_by L h (find (shape w) a L) refl) (sym (is L h) ∙ z);
-          within = λ n.
+          none = λ e L h. measured_none measure (find (shape w) a L) (sym (is L h) ∙ e);
+          some = λ n e. some_byte n e (ℕ_discrete n 0);
+          within = λ n e.
               let g = find (shape w) a k.layout in
-              let e = ends_by k.layout k.here g refl in
-              let m : (r ≡ measure g) × (measure g ≤ capacity (shape w) g) = (is k.layout k.here, ms.most a (end_of (length b)) g e) in
-              omega (arith, m, capacity_by a (end_of (length b)) g e (omega (arith, m)));
+              let m : (measure g ≡ n) × (measure g ≤ capacity (shape w) g) = (of_found n e, ms.most a (end_of (length b)) g ends) in
+              omega (arith, some_byte n e (ℕ_discrete n 0), m, capacity_by a (end_of (length b)) g ends (omega (arith, some_byte n e (ℕ_discrete n 0), m)));
         }
+      where
+        ends : EndsBy w a (end_of (length b)) (find (shape w) a k.layout)
+        ends = ends_by k.layout k.here (find (shape w) a k.layout) refl
 
-module _ {w : ℕ} (wd : Width w) (b : List ℕ) (a : ℕ) (k : Sound (shape w) b) (x : Live) (f : (L : Layout) → Here (shape w) b L → Finds w L a x) where
-  found_as : (y : Live) → x ≡ y → (L : Layout) → Here (shape w) b L → Finds w L a y
-  found_as y e L h = subst (λ (z : Live). Finds w L a z) e (f L h)
+        of_found : (n : ℕ) → r ≡ Some n → measure (find (shape w) a k.layout) ≡ n
+        of_found n e = (measured_some measure (find (shape w) a k.layout) n (sym (is k.layout k.here) ∙ e)).0
 
-  pub class_few : (q : Position) (c n : ℕ) → x ≡ Item q c n → c < (shape w).classes
-  unfolding Finds EndsBy
-  class_few q c n e = (ends_by wd b a k.layout k.here (thing (offset_of (shape w) q.0) c n) (found_as (Item q c n) e k.layout k.here).1).0
+        some_byte : (n : ℕ) → r ≡ Some n → Dec (n ≡ 0) → 1 ≤ n
+        some_byte n e (no z) = omega (arith, z)
+        some_byte n e (yes z) = absurd ((measured_some measure (find (shape w) a k.layout) n (sym (is k.layout k.here) ∙ e)).1 (ms.none a (end_of (length b)) (find (shape w) a k.layout) ends (of_found n e ∙ z)))
 
-  pub block_least : (y : UsedBlock) → x ≡ Variable y → least_variable (shape w) ≤ y.size
-  unfolding Finds EndsBy
-  block_least y e =
-      let g = found_as (Variable y) e k.layout k.here in
-      let z = ends_by wd b a k.layout k.here (block g.0) g.1.found in
-      omega (arith, z.0, g.1.size)
+module _ {w : ℕ} (wd : Width w) (b : List ℕ) (a : ℕ) (k : Sound (shape w) b) where
+  module _ (q : Position) (c n : ℕ) (f : (L : Layout) → Here (shape w) b L → Finds w L a (Some (Item q c n))) where
+    pub class_few : c < (shape w).classes
+    unfolding Finds EndsBy
+    class_few = (ends_by wd b a k.layout k.here (thing (offset_of (shape w) q.0) c n) (f k.layout k.here).1).0
+
+  module _ (y : UsedBlock) (f : (L : Layout) → Here (shape w) b L → Finds w L a (Some (Variable y))) where
+    pub block_least : least_variable (shape w) ≤ y.size
+    unfolding Finds EndsBy
+    block_least =
+        let g = f k.layout k.here in
+        let z = ends_by wd b a k.layout k.here (block g.0) g.1.found in
+        omega (arith, z.0, g.1.size)
 
   module _ {measure : Found → ℕ} (ms : Measures w measure) where
-    pub holds_none : x ≡ Nothing → Holds w measure b a 0
-    unfolding Finds EndsBy
-    holds_none e =
-        let z : 0 ≡ measure nothing = omega (arith, ms.most a 0 nothing tt) in
-        holds wd b a ms k 0 (λ L h. z ∙ ap measure (sym (found_as Nothing e L h)))
-
-    pub holds_item : (q : Position) (c n : ℕ) → x ≡ Item q c n → (r : ℕ) → r ≡ measure (thing (offset_of (shape w) q.0) c n) → Holds w measure b a r
+    pub holds_none : ((L : Layout) → Here (shape w) b L → Finds w L a None) → Holds w measure b a None
     unfolding Finds
-    holds_item q c n e r er = holds wd b a ms k r (λ L h. er ∙ ap measure (sym (found_as (Item q c n) e L h).1))
+    holds_none f = holds wd b a ms k None (λ L h. ap (measured measure) (sym (f L h)))
 
-    pub holds_block : (y : UsedBlock) → x ≡ Variable y → (r : ℕ) → ((t : Spot) → t.size ≡ y.size → r ≡ measure (block t)) → Holds w measure b a r
+    pub holds_item : (q : Position) (c n : ℕ) → ((L : Layout) → Here (shape w) b L → Finds w L a (Some (Item q c n))) → (r : ℕ) → r ≡ measure (thing (offset_of (shape w) q.0) c n) → Holds w measure b a (Some r)
     unfolding Finds
-    holds_block y e r er =
-        holds wd b a ms k r (λ L h. let g = found_as (Variable y) e L h in er g.0 g.1.size ∙ ap measure (sym g.1.found))
+    holds_item q c n f r er = holds wd b a ms k (Some r) (λ L h. ap Some er ∙ ap (measured measure) (sym (f L h).1))
+
+    pub holds_block : (y : UsedBlock) → ((L : Layout) → Here (shape w) b L → Finds w L a (Some (Variable y))) → (r : ℕ) → ((t : Spot) → t.size ≡ y.size → r ≡ measure (block t)) → Holds w measure b a (Some r)
+    unfolding Finds
+    holds_block y f r er =
+        holds wd b a ms k (Some r) (λ L h. let g = f L h in ap Some (er g.0 g.1.size) ∙ ap (measured measure) (sym g.1.found))

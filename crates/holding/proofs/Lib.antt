@@ -1,1 +1,1 @@
-mod HoldingLaws
+pub mod HoldingLaws

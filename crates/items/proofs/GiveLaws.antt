@@ -1,9 +1,5 @@
 -- An item goes to the head of its list, or one in use is for another size from now on: what is read and what is written.
-use Prim.Native.Nat.{ℕ, ◌+◌, ◌*◌, ◌<◌, ◌≤◌}
-use mathlib.Core.Path.{◌≡◌, sym, ap, subst, ◌∙◌}
-use mathlib.Core.List.{List, []}
-use native.Mathlib.Omega.{arith}
-use lib.ListN.{length, get_or}
+use Rattle.std.proofs.Common.{ℕ, ◌+◌, ◌*◌, ◌<◌, ◌≤◌, ◌≡◌, sym, ap, subst, ◌∙◌, List, [], arith, length, get_or}
 use Rattle.words.specs.Width.{Width}
 use Rattle.words.specs.Word.{word_at, put, Bytes}
 use Rattle.model.specs.Shape.{shape, class_of, offset_of, end_of, index, start}

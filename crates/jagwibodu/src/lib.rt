@@ -5,60 +5,60 @@ ghost use Rattle.model.specs.Shape.{wide};
 ghost use Rattle.model.specs.Calls.{Initialises, Checks, Allocates, Frees, ResizesInPlace, Moves, Resizes, Sweeps};
 ghost use Rattle.numbering.specs.Numbers.{Numbered};
 
-use model::{Position, WIDE};
+use model::{Position, Wide};
 
 #[unsafe(no_mangle)]
 pub extern "C" fn jagwibodu_initialise(h: &mut [u8], end: u64) -> u64
     ensures { Numbered (Initialises wide h.old end) result h.new }
 {
-    numbering::initialise(WIDE, h, Position(end as usize))
+    numbering::initialise::<Wide>(h, Position(end as usize))
 }
 
 #[unsafe(no_mangle)]
 pub extern "C" fn jagwibodu_check(h: &[u8]) -> u64
     ensures { Numbered (Checks wide h.now) result h.now }
 {
-    numbering::check(WIDE, h)
+    numbering::check::<Wide>(h)
 }
 
 #[unsafe(no_mangle)]
 pub extern "C" fn jagwibodu_allocate(h: &mut [u8], size: u64) -> u64
     ensures { Numbered (Allocates wide h.old size) result h.new }
 {
-    numbering::allocate(WIDE, h, size)
+    numbering::allocate::<Wide>(h, size)
 }
 
 #[unsafe(no_mangle)]
 pub extern "C" fn jagwibodu_free(h: &mut [u8], address: u64) -> u64
     ensures { Numbered (Frees wide h.old address) result h.new }
 {
-    numbering::free(WIDE, h, address)
+    numbering::free::<Wide>(h, address)
 }
 
 #[unsafe(no_mangle)]
 pub extern "C" fn jagwibodu_resize_in_place(h: &mut [u8], address: u64, size: u64) -> u64
     ensures { Numbered (ResizesInPlace wide h.old address size) result h.new }
 {
-    numbering::resize_in_place(WIDE, h, address, size)
+    numbering::resize_in_place::<Wide>(h, address, size)
 }
 
 #[unsafe(no_mangle)]
 pub extern "C" fn jagwibodu_move(h: &mut [u8], address: u64, size: u64) -> u64
     ensures { Numbered (Moves wide h.old address size) result h.new }
 {
-    numbering::relocate(WIDE, h, address, size)
+    numbering::relocate::<Wide>(h, address, size)
 }
 
 #[unsafe(no_mangle)]
 pub extern "C" fn jagwibodu_resize(h: &mut [u8], address: u64, size: u64) -> u64
     ensures { Numbered (Resizes wide h.old address size) result h.new }
 {
-    numbering::resize(WIDE, h, address, size)
+    numbering::resize::<Wide>(h, address, size)
 }
 
 #[unsafe(no_mangle)]
 pub extern "C" fn jagwibodu_sweep(h: &mut [u8]) -> u64
     ensures { Numbered (Sweeps wide h.old) result h.new }
 {
-    numbering::sweep(WIDE, h)
+    numbering::sweep::<Wide>(h)
 }

@@ -1,5 +1,4 @@
 pub mod Places
 pub mod Rights
 pub mod MapLaws
-pub mod Counts
 pub mod PageLaws

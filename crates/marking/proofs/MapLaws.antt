@@ -1,6 +1,6 @@
 -- Laws of the map of free items.
 use Rattle.std.proofs.Common.{◌≡◌, ℕ, suc, ◌+◌, ◌*◌, ◌/◌, ◌%◌, ◌<◌, ◌≤◌, cond, eqb, List, [], ◌∷◌, ◌++◌, length, refl, ap, ◌∙◌, arith, length-set, eq-eqb, ne_eqb}
-use native.Mathlib.Decide.{ℕ_discrete, dec_le}
+use Rattle.std.proofs.Math.Decide.{ℕ_discrete, dec_le}
 use Rattle.words.specs.Width.{Width}
 use Rattle.words.specs.Bits.{bit_at, marked}
 use Rattle.words.proofs.BitLaws.{marked_same, marked_other, beyond_clear}

@@ -1,7 +1,6 @@
 -- Laws of a page's items and of blocks in use: what the tests of the headers tell.
-use Rattle.std.proofs.Common.{◌≡◌, ℕ, zero, suc, ◌+◌, ◌-◌, ◌*◌, ◌/◌, ◌%◌, ◌^◌, ◌<◌, ◌≤◌, ◌⊎◌, List, [], ◌∷◌, length, sym, refl, ap, ◌∙◌, subst, inl, inr, mul-le-mul_right, arith}
-use native.Mathlib.Decide.{ℕ_discrete, dec_le}
-use lib.Bits.{bit_or}
+use Rattle.std.proofs.Common.{◌≡◌, ℕ, zero, suc, ◌+◌, ◌-◌, ◌*◌, ◌/◌, ◌%◌, ◌^◌, ◌<◌, ◌≤◌, ◌⊎◌, List, [], ◌∷◌, length, Option, None, sym, refl, ap, ◌∙◌, subst, inl, inr, mul-le-mul_right, arith, bit_or}
+use Rattle.std.proofs.Math.Decide.{ℕ_discrete, dec_le}
 use Rattle.words.specs.Width.{Width}
 use Rattle.words.specs.Word.{word_at}
 use Rattle.words.specs.Bits.{marked}
@@ -18,9 +17,7 @@ use Rattle.marking.specs.Maps.{NoMarks, offset_bit, at_bit, map_end}
 use Rattle.marking.specs.Told.{MapSize, Marking, MarkRoom, ItemsMarked, ItemsTold, PageItems, Judged, PageRoom, UseMarked, PageTold}
 use Rattle.marking.specs.declared.pages.Tally.{Tally}
 use Rattle.marking.proofs.Rights.{or_near, near_right, right_in, right_out, right_none, items_right}
-use Rattle.marking.specs.declared.map.Marks.{Marks}
-use Rattle.marking.specs.declared.map.Marks.TheVariants.{Unsound}
-use Rattle.marking.proofs.Counts.{no_count}
+use Rattle.std.proofs.lemmas.Option.{none-some}
 use Rattle.marking.proofs.MapLaws.{adds_none, adds_mark, marking_on, marking_more, length_marked}
 use Rattle.marking.proofs.Places.{near_parts, far_part, or_low, no_flags, bit_room, bit_step, bits_less, bits_order, bits_stop, bits_within, bit_least, map_end_bound, first_bit}
 
@@ -258,8 +255,8 @@ pub use_big : {w : ℕ} → Width w → {b : List ℕ} {p s kind : ℕ} → UseA
 unfolding Allowed size_of
 use_big wd u = omega (arith, sizes wd (used u.use_is) u.allowed, u.size)
 
-pub page_tiny : {w : ℕ} {b m : List ℕ} {p s n : ℕ} → PageRoom w b m p s n → s < least_free (shape w) → (m' : List ℕ) → PageTold w b m p s Unsound m'
-page_tiny room h m' = record { is_no = λ _ u. omega (arith, use_big room.width u); is_yes = λ n y. absurd (no_count y) }
+pub page_tiny : {w : ℕ} {b m : List ℕ} {p s n : ℕ} → PageRoom w b m p s n → s < least_free (shape w) → (m' : List ℕ) → PageTold w b m p s None m'
+page_tiny room h m' = record { is_no = λ _ u. omega (arith, use_big room.width u); is_yes = λ n y. absurd (none-some _ y) }
 
 -- a page whose first item is at q and has the header x, which says class c; k is what a page of that class needs
 module _ {w : ℕ} {b m : List ℕ} {p s n : ℕ} (room : PageRoom w b m p s n) (q x c k : ℕ) (eq : q ≡ first_item_at (shape w) p) (ex : x ≡ word_at w b q) (ec : c ≡ class_in (shape w) x) (ek : k ≡ page_need (shape w) c) where
@@ -271,8 +268,8 @@ module _ {w : ℕ} {b m : List ℕ} {p s n : ℕ} (room : PageRoom w b m p s n) 
 
   -- d is what the page has to spare, or beyond every heap where it is too short
   module _ (d : ℕ) (ed : (d + k) % 2 ^ 64 ≡ s) (low : d < 2 ^ 64) where
-    pub page_misfit : least_free (shape w) ≤ d → (m' : List ℕ) → PageTold w b m p s Unsound m'
-    page_misfit h m' = record { is_no = λ _ u. omega (arith, (is_page u).least_size, (is_page u).most_size, ek); is_yes = λ n y. absurd (no_count y) }
+    pub page_misfit : least_free (shape w) ≤ d → (m' : List ℕ) → PageTold w b m p s None m'
+    page_misfit h m' = record { is_no = λ _ u. omega (arith, (is_page u).least_size, (is_page u).most_size, ek); is_yes = λ n y. absurd (none-some _ y) }
 
     pub page_fits : d < least_free (shape w) → (k ≤ s) × (s < k + least_free (shape w))
     page_fits h = omega (arith, ek, page_items_bound room.width c few)
@@ -325,7 +322,7 @@ module _ {w : ℕ} {b m : List ℕ} {p s n : ℕ} (room : PageRoom w b m p s n) 
         pub page_near : SameClass t.above → PageRight w b p
         page_near a = to_page (told.near a)
 
-        pub page_told : s < k + least_free (shape w) → (r : Marks) → Judged w b p t r → PageTold w b m p s r m'
+        pub page_told : s < k + least_free (shape w) → (r : Option ℕ) → Judged w b p t r → PageTold w b m p s r m'
         page_told h r j =
             record {
               is_no = λ y u. not (j.is_no y) (rw (from, eq) (is_page u).items);

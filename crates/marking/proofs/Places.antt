@@ -1,6 +1,6 @@
 -- The places of items, as positions, offsets and bits of the map: what holds at both word sizes.
-use Rattle.std.proofs.Common.{◌≡◌, ℕ, zero, suc, ◌+◌, ◌*◌, ◌/◌, ◌%◌, ◌^◌, ◌<◌, ◌≤◌, sym, refl, ap, ◌∙◌, mul_assoc, mul-div_cancel, arith}
-use lib.Bits.{bit_or, or_mod, or_add_and, and_le_l, and_le_r}
+use Rattle.std.proofs.Common.{◌≡◌, ℕ, zero, suc, ◌+◌, ◌*◌, ◌/◌, ◌%◌, ◌^◌, ◌<◌, ◌≤◌, sym, refl, ap, ◌∙◌, mul_assoc, mul-div_cancel, arith, bit_or}
+use lib.Bits.{or_mod, or_add_and, and_le_l, and_le_r}
 use Rattle.words.specs.Width.{Width}
 use Rattle.words.proofs.WidthLaws.{widths}
 use Rattle.words.proofs.HighLaws.{high_fits, high_none, high_far}

@@ -1,6 +1,6 @@
 -- Headers of items in use: what the tests tell of the sizes that were asked for, one by one and or-ed.
-use Rattle.std.proofs.Common.{◌≡◌, ℕ, zero, suc, ◌+◌, ◌-◌, ◌*◌, ◌/◌, ◌%◌, ◌^◌, ◌<◌, ◌≤◌, true, false, List, [], ◌∷◌, length, sym, refl, ap, ◌∙◌, subst, inl, inr, arith}
-use lib.Bits.{bit_or, or_shr}
+use Rattle.std.proofs.Common.{◌≡◌, ℕ, zero, suc, ◌+◌, ◌-◌, ◌*◌, ◌/◌, ◌%◌, ◌^◌, ◌<◌, ◌≤◌, true, false, List, [], ◌∷◌, length, sym, refl, ap, ◌∙◌, subst, inl, inr, arith, bit_or}
+use lib.Bits.{or_shr}
 use Rattle.words.specs.Width.{Width}
 use Rattle.words.specs.Word.{word_at}
 use Rattle.model.specs.Shape.{shape, item_size}
@@ -84,12 +84,11 @@ pub record RightInv (w : ℕ) (b : List ℕ) (c size first n q left : ℕ) : Typ
   pub back : AllRight w b c q left → AllRight w b c first n
 
 module _ {w : ℕ} {b : List ℕ} {c size first n q left : ℕ} (v : RightInv w b c size first n q left) where
-  pub right_inside : (left ≡ 0 → ⊥) → (q + w ≤ length b) × (q + size ≤ length b)
-  right_inside z = (omega (arith, v.room, one_less left (item_size (shape w) c) z), omega (arith, v.room, v.item_size_is, one_less left (item_size (shape w) c) z))
-
-  pub right_again : (left ≡ 0 → ⊥) → (x : ℕ) → x ≡ word_at w b q → Right c x → RightInv w b c size first n (q + size) (left - 1)
-  right_again z x e f =
-      rw v.item_size_is
+  pub right_again : (k : ℕ) → k + 1 ≡ left → (x : ℕ) → x ≡ word_at w b q → Right c x → RightInv w b c size first n (q + size) k
+  right_again k g x e f =
+      let z : left ≡ 0 → ⊥ = λ y. omega (arith, g, y) in
+      let one : left - 1 ≡ k = omega (arith, g) in
+      rw (v.item_size_is, ← one)
       record {
         width = v.width;
         item_size_is = refl;
@@ -102,9 +101,6 @@ module _ {w : ℕ} {b : List ℕ} {c size first n q left : ℕ} (v : RightInv w 
 module _ {w : ℕ} {b : List ℕ} {p : ℕ} (k : PageItems w b p) (q x c n : ℕ) (eq : q ≡ first_item_at (shape w) p) (ex : x ≡ word_at w b q) (ec : c ≡ class_in (shape w) x) (en : n ≡ (shape w).per_page c) where
   class_is : c ≡ class_at w b p
   class_is = ec ∙ ap (class_in (shape w)) (ex ∙ ap (word_at w b) eq)
-
-  pub right_start : (size : ℕ) → size ≡ item_size (shape w) c → RightInv w b c size q n q n
-  right_start size es = record { width = k.width; item_size_is = es; room = rw (en, eq, class_is) k.inside; ahead = λ r. r; back = λ r. r }
 
   to_page : AllRight w b c q n → PageRight w b p
   to_page a = subst (λ (d : ℕ). AllRight w b d (first_item_at (shape w) p) ((shape w).per_page d)) class_is (rw (en, eq) at a)

@@ -1,12 +1,10 @@
--- What marking the items of a page asks and tells: how many marks there are, or that the heap is not sound.
-use Rattle.std.specs.Prelude.{◌≡◌, ℕ, ◌+◌, ◌*◌, ◌%◌, ◌<◌, ◌≤◌, Bool, true, ◌⊎◌, List, length, ◌≢◌}
+-- What marking the items of a page asks and tells: how many marks there are, or nothing where the heap is not sound.
+use Rattle.std.specs.Prelude.{◌≡◌, ℕ, ◌+◌, ◌*◌, ◌%◌, ◌<◌, ◌≤◌, Bool, true, ◌⊎◌, List, length, ◌≢◌, Option, Some, None}
 use Rattle.words.specs.Width.{Width}
 use Rattle.model.specs.Shape.{shape, start, shortest, item_size}
 use Rattle.model.specs.Parts.{page_kind, class_and_flags, first_item_at}
 use Rattle.model.specs.inner.Headers.{SameClass}
 use Rattle.model.specs.Sound.{idle_slots}
-use Rattle.marking.specs.declared.map.Marks.{Marks}
-use Rattle.marking.specs.declared.map.Marks.TheVariants.{Unsound, Count}
 use Rattle.marking.specs.declared.pages.Tally.{Tally}
 use Rattle.marking.specs.Uses.{Items, AllRight, class_at, PageRight, UseAt, free_in}
 use Rattle.marking.specs.Maps.{Adds, Marked, NoMarks, at_bit, map_end, large_map}
@@ -63,9 +61,9 @@ pub record RightTold (w : ℕ) (b : List ℕ) (p : ℕ) (r : Bool) : Type 0 wher
   pub is_yes : PageRight w b p → r ≡ true
 
 -- what is judged of the page at p by its tally
-pub record Judged (w : ℕ) (b : List ℕ) (p : ℕ) (t : Tally) (r : Marks) : Type 0 where
-  pub is_no : r ≡ Unsound → (class_and_flags (shape w) t.wrong ≢ 0) ⊎ (PageRight w b p → ⊥)
-  pub is_yes : (n : ℕ) → r ≡ Count n → (class_and_flags (shape w) t.wrong ≡ 0) × PageRight w b p × (n ≡ t.marks)
+pub record Judged (w : ℕ) (b : List ℕ) (p : ℕ) (t : Tally) (r : Option ℕ) : Type 0 where
+  pub is_no : r ≡ None → (class_and_flags (shape w) t.wrong ≢ 0) ⊎ (PageRight w b p → ⊥)
+  pub is_yes : (n : ℕ) → r ≡ Some n → (class_and_flags (shape w) t.wrong ≡ 0) × PageRight w b p × (n ≡ t.marks)
 
 -- a page of size s at p
 pub record PageRoom (w : ℕ) (b m : List ℕ) (p s n : ℕ) : Type 0 where
@@ -83,6 +81,6 @@ pub record UseMarked (w : ℕ) (b : List ℕ) (p s kind : ℕ) (m m' : List ℕ)
   pub use_at_lem : UseAt w b p s kind
   pub adds : Adds w m m' (free_in w p use_at_lem.use_is)
 
-pub record PageTold (w : ℕ) (b m : List ℕ) (p s : ℕ) (r : Marks) (m' : List ℕ) : Type 0 where
-  pub is_no : r ≡ Unsound → UseAt w b p s page_kind → ⊥
-  pub is_yes : (n : ℕ) → r ≡ Count n → UseMarked w b p s page_kind m m' × Marking w m' n (p + s)
+pub record PageTold (w : ℕ) (b m : List ℕ) (p s : ℕ) (r : Option ℕ) (m' : List ℕ) : Type 0 where
+  pub is_no : r ≡ None → UseAt w b p s page_kind → ⊥
+  pub is_yes : (n : ℕ) → r ≡ Some n → UseMarked w b p s page_kind m m' × Marking w m' n (p + s)

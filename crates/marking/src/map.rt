@@ -1,37 +1,29 @@
 // The map of free items: a bit for each word from the index page on, the mark of the item whose header stands there.
 ghost use Rattle.std.specs.Prelude.{◌≡◌, ◌^◌, ◌<◌};
-ghost use Rattle.words.specs.Width.{Width};
 ghost use Rattle.marking.specs.Maps.{offset_bit, at_bit, map_end};
 
 use model::{ItemOffset, Position, item_at};
-
-// How many marks there are, or that the heap is not sound.
-#[derive(Clone, Copy)]
-pub enum Marks {
-    Unsound,
-    Count(usize),
-}
+use words::Width;
 
 // The bit of the item with offset o, whatever a damaged heap gives for one; that of offset 0, the end of a list, has never a mark.
-pub fn offset_bit(w: usize, o: ItemOffset) -> usize
-    requires { Width w }
-    ensures { result ≡ offset_bit w o.0 }
+pub fn offset_bit<W: Width>(o: ItemOffset) -> usize
+    ensures { result ≡ offset_bit W.BYTES o.0 }
 {
-    o.0 / w
+    o.0 / W::BYTES
 }
 
 // Where the item of bit i has its header.
-pub fn at_bit(w: usize, i: usize) -> Position
-    requires { Width w × (at_bit w i < 2 ^ 32) }
-    ensures { result.0 ≡ at_bit w i }
+pub fn at_bit<W: Width>(i: usize) -> Position
+    requires { at_bit W.BYTES i < 2 ^ 32 }
+    ensures { result.0 ≡ at_bit W.BYTES i }
 {
-    item_at(w, ItemOffset(w * i))
+    item_at::<W>(ItemOffset(W::BYTES * i))
 }
 
 // Where the words end that a map of so many words of 64 bits has bits for.
-pub fn map_end(w: usize, words: usize) -> Position
-    requires { Width w × (map_end w words < 2 ^ 32) }
-    ensures { result.0 ≡ map_end w words }
+pub fn map_end<W: Width>(words: usize) -> Position
+    requires { map_end W.BYTES words < 2 ^ 32 }
+    ensures { result.0 ≡ map_end W.BYTES words }
 {
-    at_bit(w, 64 * words)
+    at_bit::<W>(64 * words)
 }

@@ -1,7 +1,5 @@
 -- What a shape must have, so that the laws of layouts hold of its heaps; and that the heaps with words of 4 and of 8 bytes have it.
-use Prim.Native.Nat.{ℕ, ◌+◌, ◌*◌, ◌%◌, ◌^◌, ◌≤◌, ◌<◌}
-use mathlib.Core.Path.{◌≡◌}
-use native.Mathlib.Omega.{arith}
+use Rattle.std.proofs.Common.{ℕ, ◌+◌, ◌*◌, ◌%◌, ◌^◌, ◌≤◌, ◌<◌, ◌≡◌, arith}
 use Rattle.words.specs.Width.{Width}
 use Rattle.model.specs.Shape.{Shape, shape, tags, least_free, least_variable, page_need}
 use Rattle.model.proofs.Sizes.{page_eight, words_fit}

@@ -10,5 +10,6 @@ pub mod Reading
 pub mod Walking
 pub mod Sweeping
 pub mod Refusals
+pub mod Refused
 pub mod Calls
 pub mod Promises

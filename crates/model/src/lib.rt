@@ -1,15 +1,19 @@
-// A heap of words of w bytes in code, document 01's at 8 and the hand unit's at 4: the three ways of counting a place, and each part of a heap by name.
-// What follows from w is folded away where a program gives it as a constant.
+// A heap in code, over the width of its words, document 01's of 8 bytes and the hand unit's of 4: the three ways of counting a place, and each part of a heap by name.
+// What follows from the width is folded away, since a program names it.
 #![tactic(auto)]
 
+pub mod refusals;
+
 ghost use Rattle.std.specs.Prelude.{◌≡◌, true, ◌+◌, ◌*◌, ◌≤◌, ◌<◌, ◌^◌};
-ghost use Rattle.words.specs.Width.{Width};
 ghost use Rattle.model.specs.Shape.{shape, end_of, class_of, need_of, index, start, tags, least_free, shortest, least_variable, largest_item, item_size, item_capacity, item_shown, block_capacity, page_need, address_of, position_of, offset_of, item_at};
 ghost use Rattle.model.specs.inner.Headers.{least_header, SameClass};
 ghost use Rattle.model.specs.inner.Pages.{least_page};
 ghost use Rattle.model.specs.Parts.{tag_of, size_in, kind_in, free_header, held_header, flags_in, used_in, asked_in, free_mark, class_and_flags, class_in, next_in, data_at, index_at, first_free_at, end_at, index_tag, index_tag_at, index_far_tag_at, head_at, far_tag_at, next_at, previous_at, first_item_at};
 
-// A place counted in bytes from the start of the buffer.
+pub use refusals::Refusal;
+use words::{Eight, Four, Width};
+
+// A place counted in bytes from the start of the buffer. Places are compared by their numbers: a derived `<` is a call to a proof, and of `reading::starts`, tried so, all 7 goals fell open.
 #[derive(Clone, Copy)]
 pub struct Position(pub usize);
 // The position of a payload's first byte.
@@ -19,79 +23,67 @@ pub struct Address(pub usize);
 #[derive(Clone, Copy)]
 pub struct ItemOffset(pub usize);
 
-// What a block is, as its tag says.
+// What a block is, as the low three bits of its tag say. Five of their eight values name no kind, and the check meets them all: an enum would be a ninth case at each `match`.
 pub const FREE: usize = 0;
 
 pub const VARIABLE: usize = 2;
 
 pub const PAGE: usize = 3;
 
-// What an item is, as the flags of its header say: free, or in use.
+// What an item is, as the flags of its header say, two bits: free, or in use. Two of their four values name neither.
 pub const IDLE: usize = 1;
 
 pub const HELD: usize = 3;
 
 // The address of the payload behind the tag or header at p.
-pub fn address_of(w: usize, p: Position) -> Address
-    requires { Width w × (p.0 < 2 ^ 63) }
-    ensures { result.0 ≡ address_of (shape w) p.0 }
+pub fn address_of<W: Width>(p: Position) -> Address
+    requires { p.0 < 2 ^ 63 }
+    ensures { result.0 ≡ address_of (shape W.BYTES) p.0 }
 {
-    Address(p.0 + w)
+    Address(p.0 + W::BYTES)
 }
 
 // The position of the tag or header before the payload at a.
-pub fn position_of(w: usize, a: Address) -> Position
-    requires { w ≤ a.0 }
-    ensures { result.0 ≡ position_of (shape w) a.0 }
+pub fn position_of<W: Width>(a: Address) -> Position
+    requires { W.BYTES ≤ a.0 }
+    ensures { result.0 ≡ position_of (shape W.BYTES) a.0 }
 {
-    Position(a.0 - w)
+    Position(a.0 - W::BYTES)
 }
 
 // The item offset of the item whose header stands at p.
-pub fn offset_of(w: usize, p: Position) -> ItemOffset
-    requires { Width w × (index (shape w) ≤ p.0) }
-    ensures { result.0 ≡ offset_of (shape w) p.0 }
+pub fn offset_of<W: Width>(p: Position) -> ItemOffset
+    requires { index (shape W.BYTES) ≤ p.0 }
+    ensures { result.0 ≡ offset_of (shape W.BYTES) p.0 }
 {
-    ItemOffset(p.0 - index(w).0)
+    ItemOffset(p.0 - index::<W>().0)
 }
 
 // The position of the header of the item with offset o.
-pub fn item_at(w: usize, o: ItemOffset) -> Position
-    requires { Width w × (o.0 < 2 ^ 63) }
-    ensures { result.0 ≡ item_at (shape w) o.0 }
+pub fn item_at<W: Width>(o: ItemOffset) -> Position
+    requires { o.0 < 2 ^ 63 }
+    ensures { result.0 ≡ item_at (shape W.BYTES) o.0 }
 {
-    Position(index(w).0 + o.0)
+    Position(index::<W>().0 + o.0)
 }
 
-// What a call may say no with, by the numbers of documents 01 and 02.
-pub const BAD_LENGTH: u64 = 1;
-
-pub const NOT_OPENED: u64 = 2;
-
-pub const NOT_SOUND: u64 = 3;
-
-pub const BAD_SIZE: u64 = 4;
-
-pub const NOT_LIVE: u64 = 5;
-
-pub const NO_ROOM: u64 = 6;
-
-pub const ALREADY_OPENED: u64 = 7;
-
-pub const BAD_END: u64 = 8;
-
-// The bytes of a word of document 01's heap, and of the hand unit's: what every function takes as w.
+// The bytes of a word of document 01's heap, and of the hand unit's. What else differs is told by a comparison with these, as `shape` in the definitions does.
 pub const WIDE: usize = 8;
 
 pub const HAND: usize = 4;
 
+// Their widths: what a program gives to say which heap it has.
+pub type Wide = Eight;
+
+pub type Hand = Four;
+
 // A heap of either width begins with eight bytes; as one word of eight bytes they are its magic number.
 pub const MAGIC_BYTES: usize = 8;
 
-pub fn magic(w: usize) -> usize
-    ensures { result ≡ (shape w).magic }
+pub fn magic<W: Width>() -> usize
+    ensures { result ≡ (shape W.BYTES).magic }
 {
-    if w == WIDE {
+    if W::BYTES == WIDE {
         0x01636f6c6c617978
     } else {
         0x02636f6c6c617978
@@ -99,20 +91,19 @@ pub fn magic(w: usize) -> usize
 }
 
 // The shortest and the longest heap; the largest size that can be asked for is the same as the latter.
-pub fn shortest(w: usize) -> usize
-    requires { Width w }
-    ensures { result ≡ shortest (shape w) }
+pub fn shortest<W: Width>() -> usize
+    ensures { result ≡ shortest (shape W.BYTES) }
 {
-    start(w).0 + least_free(w)
+    start::<W>().0 + least_free::<W>()
 }
 
 // The bytes of the longest heap that there is: an array's length is a constant.
 pub const MOST_BYTES: usize = 1048576;
 
-pub fn longest(w: usize) -> usize
-    ensures { result ≡ (shape w).most }
+pub fn longest<W: Width>() -> usize
+    ensures { result ≡ (shape W.BYTES).most }
 {
-    if w == WIDE { MOST_BYTES } else { 65536 }
+    if W::BYTES == WIDE { MOST_BYTES } else { 65536 }
 }
 
 // How many pages a table has entries for: an array's length is a constant. Every heap has fewer than the last has; at 8 bytes a word the second is enough too.
@@ -123,18 +114,18 @@ pub const MORE_PAGES: usize = 256;
 pub const MOST_PAGES: usize = 2048;
 
 // The bytes that n pages take at least.
-pub fn paged_bytes(w: usize, n: usize) -> usize
+pub fn paged_bytes<W: Width>(n: usize) -> usize
     requires { n < 2 ^ 32 }
-    ensures { result ≡ n * least_page w }
+    ensures { result ≡ n * least_page W.BYTES }
 {
-    if w == WIDE { n * 4096 } else { n * 32 }
+    if W::BYTES == WIDE { n * 4096 } else { n * 32 }
 }
 
 // Whether a heap may end before its buffer does, and grow; the furthest end in a buffer of n bytes.
-pub fn grows(w: usize) -> bool
-    ensures { result ≡ (shape w).grows }
+pub fn grows<W: Width>() -> bool
+    ensures { result ≡ (shape W.BYTES).grows }
 {
-    w == WIDE
+    W::BYTES == WIDE
 }
 
 pub fn end_of(n: usize) -> Position
@@ -144,92 +135,83 @@ pub fn end_of(n: usize) -> Position
 }
 
 // The heap's header: where it names the data area, the index page, the first free block and the end.
-pub fn data_at(w: usize) -> Position
-    ensures { result.0 ≡ data_at (shape w) }
+pub fn data_at<W: Width>() -> Position
+    ensures { result.0 ≡ data_at (shape W.BYTES) }
 {
     Position(8)
 }
 
-pub fn index_at(w: usize) -> Position
-    requires { Width w }
-    ensures { result.0 ≡ index_at (shape w) }
+pub fn index_at<W: Width>() -> Position
+    ensures { result.0 ≡ index_at (shape W.BYTES) }
 {
-    Position(8 + w)
+    Position(8 + W::BYTES)
 }
 
-pub fn first_free_at(w: usize) -> Position
-    requires { Width w }
-    ensures { result.0 ≡ first_free_at (shape w) }
+pub fn first_free_at<W: Width>() -> Position
+    ensures { result.0 ≡ first_free_at (shape W.BYTES) }
 {
-    Position(8 + 2 * w)
+    Position(8 + 2 * W::BYTES)
 }
 
-pub fn end_at(w: usize) -> Position
-    requires { Width w }
-    ensures { result.0 ≡ end_at (shape w) }
+pub fn end_at<W: Width>() -> Position
+    ensures { result.0 ≡ end_at (shape W.BYTES) }
 {
-    Position(8 + 3 * w)
+    Position(8 + 3 * W::BYTES)
 }
 
 // The tag of the index page's block, and where it stands before and behind that page.
-pub fn index_tag(w: usize) -> usize
-    requires { Width w }
-    ensures { result ≡ index_tag (shape w) }
+pub fn index_tag<W: Width>() -> usize
+    ensures { result ≡ index_tag (shape W.BYTES) }
 {
-    4 * w * w + 2 * w + PAGE
+    4 * W::BYTES * W::BYTES + 2 * W::BYTES + PAGE
 }
 
-pub fn index_tag_at(w: usize) -> Position
-    requires { Width w }
-    ensures { result.0 ≡ index_tag_at (shape w) }
+pub fn index_tag_at<W: Width>() -> Position
+    ensures { result.0 ≡ index_tag_at (shape W.BYTES) }
 {
-    Position(8 + 4 * w)
+    Position(8 + 4 * W::BYTES)
 }
 
-pub fn index_far_tag_at(w: usize) -> Position
-    requires { Width w }
-    ensures { result.0 ≡ index_far_tag_at (shape w) }
+pub fn index_far_tag_at<W: Width>() -> Position
+    ensures { result.0 ≡ index_far_tag_at (shape W.BYTES) }
 {
-    Position(start(w).0 - w)
+    Position(start::<W>().0 - W::BYTES)
 }
 
 // Where the index page begins; where the data area begins.
-pub fn index(w: usize) -> Position
-    requires { Width w }
-    ensures { result.0 ≡ index (shape w) }
+pub fn index<W: Width>() -> Position
+    ensures { result.0 ≡ index (shape W.BYTES) }
 {
-    Position(8 + 5 * w)
+    Position(8 + 5 * W::BYTES)
 }
 
-pub fn start(w: usize) -> Position
-    requires { Width w }
-    ensures { result.0 ≡ start (shape w) }
+pub fn start<W: Width>() -> Position
+    ensures { result.0 ≡ start (shape W.BYTES) }
 {
-    Position(8 + 6 * w + 4 * w * w)
+    Position(8 + 6 * W::BYTES + 4 * W::BYTES * W::BYTES)
 }
 
 // The classes of the heap that has the most: an array's length is a constant.
 pub const MOST_CLASSES: usize = 32;
 
 // How many classes there are; how many of them, the lowest, are handed out; where the list of class c begins, in the index page.
-pub fn classes(w: usize) -> usize
-    requires { Width w }
-    ensures { result ≡ (shape w).classes }
+pub fn classes<W: Width>() -> usize
+    ensures { result ≡ (shape W.BYTES).classes }
 {
-    4 * w
+    4 * W::BYTES
 }
 
-pub fn offered(w: usize) -> usize
-    ensures { result ≡ (shape w).offered }
+pub fn offered<W: Width>() -> usize
+    ensures { result ≡ (shape W.BYTES).offered }
 {
     16
 }
 
-pub fn head_at(w: usize, c: usize) -> Position
-    requires { Width w × (c < (shape w).classes) }
-    ensures { (result.0 ≡ head_at (shape w) c) × (result.0 + w ≤ start (shape w)) }
+pub fn head_at<W: Width>(c: usize) -> Position
+    requires { c < (shape W.BYTES).classes }
+    ensures { (result.0 ≡ head_at (shape W.BYTES) c) × (result.0 + W.BYTES ≤ start (shape W.BYTES)) }
 {
-    Position(8 + 5 * w + w * c)
+    Position(8 + 5 * W::BYTES + W::BYTES * c)
 }
 
 // A tag: a block's size plus its kind; and what a tag says.
@@ -253,69 +235,66 @@ pub fn kind_in(t: usize) -> usize
 }
 
 // Of a block of size s at p: where its far tag stands; of a free one, where its links to the next and to the previous free block do; of a page, its first item.
-pub fn far_tag_at(w: usize, p: Position, s: usize) -> Position
-    requires { (w ≤ p.0 + s) × (p.0 + s < 2 ^ 64) }
-    ensures { result.0 ≡ far_tag_at (shape w) p.0 s }
+pub fn far_tag_at<W: Width>(p: Position, s: usize) -> Position
+    requires { (W.BYTES ≤ p.0 + s) × (p.0 + s < 2 ^ 64) }
+    ensures { result.0 ≡ far_tag_at (shape W.BYTES) p.0 s }
 {
-    Position(p.0 + s - w)
+    Position(p.0 + s - W::BYTES)
 }
 
-pub fn next_at(w: usize, p: Position) -> Position
-    requires { p.0 + w < 2 ^ 64 }
-    ensures { result.0 ≡ next_at (shape w) p.0 }
+pub fn next_at<W: Width>(p: Position) -> Position
+    requires { p.0 + W.BYTES < 2 ^ 64 }
+    ensures { result.0 ≡ next_at (shape W.BYTES) p.0 }
 {
-    Position(p.0 + w)
+    Position(p.0 + W::BYTES)
 }
 
-pub fn previous_at(w: usize, p: Position, s: usize) -> Position
-    requires { Width w × (tags (shape w) ≤ p.0 + s) × (p.0 + s < 2 ^ 64) }
-    ensures { result.0 ≡ previous_at (shape w) p.0 s }
+pub fn previous_at<W: Width>(p: Position, s: usize) -> Position
+    requires { (tags (shape W.BYTES) ≤ p.0 + s) × (p.0 + s < 2 ^ 64) }
+    ensures { result.0 ≡ previous_at (shape W.BYTES) p.0 s }
 {
-    Position(p.0 + s - 2 * w)
+    Position(p.0 + s - 2 * W::BYTES)
 }
 
-pub fn first_item_at(w: usize, p: Position) -> Position
-    requires { p.0 + w < 2 ^ 64 }
-    ensures { result.0 ≡ first_item_at (shape w) p.0 }
+pub fn first_item_at<W: Width>(p: Position) -> Position
+    requires { p.0 + W.BYTES < 2 ^ 64 }
+    ensures { result.0 ≡ first_item_at (shape W.BYTES) p.0 }
 {
-    Position(p.0 + w)
+    Position(p.0 + W::BYTES)
 }
 
 // The least free block, and the least remainder that stays free; the least variable block; the largest item that is handed out.
-pub fn least_free(w: usize) -> usize
-    requires { Width w }
-    ensures { result ≡ least_free (shape w) }
+pub fn least_free<W: Width>() -> usize
+    ensures { result ≡ least_free (shape W.BYTES) }
 {
-    4 * w
+    4 * W::BYTES
 }
 
-pub fn least_variable(w: usize) -> usize
-    requires { Width w }
-    ensures { result ≡ least_variable (shape w) }
+pub fn least_variable<W: Width>() -> usize
+    ensures { result ≡ least_variable (shape W.BYTES) }
 {
-    largest_item(w) + 8 + 2 * w
+    largest_item::<W>() + 8 + 2 * W::BYTES
 }
 
-pub fn largest_item(w: usize) -> usize
-    requires { Width w }
-    ensures { result ≡ largest_item (shape w) }
+pub fn largest_item<W: Width>() -> usize
+    ensures { result ≡ largest_item (shape W.BYTES) }
 {
-    8 * offered(w)
+    8 * offered::<W>()
 }
 
 // What a variable block of size s holds; the whole size of a block for n bytes, a size above the largest item that is handed out.
-pub fn block_capacity(w: usize, s: usize) -> usize
-    requires { Width w × (tags (shape w) ≤ s) }
-    ensures { result ≡ block_capacity (shape w) s }
+pub fn block_capacity<W: Width>(s: usize) -> usize
+    requires { tags (shape W.BYTES) ≤ s }
+    ensures { result ≡ block_capacity (shape W.BYTES) s }
 {
-    s - 2 * w
+    s - 2 * W::BYTES
 }
 
-pub fn need_of(w: usize, n: usize) -> usize
-    requires { Width w × (n < 2 ^ 63) }
-    ensures { result ≡ need_of (shape w) n }
+pub fn need_of<W: Width>(n: usize) -> usize
+    requires { n < 2 ^ 63 }
+    ensures { result ≡ need_of (shape W.BYTES) n }
 {
-    (n + 7) / 8 * 8 + 2 * w
+    (n + 7) / 8 * 8 + 2 * W::BYTES
 }
 
 // The class of a size.
@@ -327,25 +306,25 @@ pub fn class_of(n: usize) -> usize
 }
 
 // What an item of class c takes, with its header; what it holds; how much of that is shown where n bytes were asked for.
-pub fn item_size(w: usize, c: usize) -> usize
-    requires { Width w × (c < (shape w).classes) }
-    ensures { result ≡ item_size (shape w) c }
+pub fn item_size<W: Width>(c: usize) -> usize
+    requires { c < (shape W.BYTES).classes }
+    ensures { result ≡ item_size (shape W.BYTES) c }
 {
-    item_capacity(w, c) + w
+    item_capacity::<W>(c) + W::BYTES
 }
 
-pub fn item_capacity(w: usize, c: usize) -> usize
-    requires { Width w × (c < (shape w).classes) }
-    ensures { result ≡ item_capacity (shape w) c }
+pub fn item_capacity<W: Width>(c: usize) -> usize
+    requires { c < (shape W.BYTES).classes }
+    ensures { result ≡ item_capacity (shape W.BYTES) c }
 {
     8 * c + 8
 }
 
-pub fn item_shown(w: usize, c: usize, n: usize) -> usize
-    requires { Width w × (c < (shape w).classes) }
-    ensures { result ≡ item_shown (shape w) c n }
+pub fn item_shown<W: Width>(c: usize, n: usize) -> usize
+    requires { c < (shape W.BYTES).classes }
+    ensures { result ≡ item_shown (shape W.BYTES) c n }
 {
-    if n == 0 { item_capacity(w, c) } else { n }
+    if n == 0 { item_capacity::<W>(c) } else { n }
 }
 
 // The page sizes of document 01's heap, printed for whoever reads the listing: how many items a page has, its class, and what an item takes with its header.
@@ -385,19 +364,23 @@ const PAGE_ITEMS: [u16; MOST_CLASSES] = [
 ];
 
 // The items of a page of class c. No other place works this out.
-pub fn items_in_page(w: usize, c: usize) -> usize
-    requires { Width w × (c < (shape w).classes) }
-    ensures { result ≡ (shape w).per_page c }
+pub fn items_in_page<W: Width>(c: usize) -> usize
+    requires { c < (shape W.BYTES).classes }
+    ensures { result ≡ (shape W.BYTES).per_page c }
 {
-    if w == WIDE { PAGE_ITEMS[c] as usize } else { 2 }
+    if W::BYTES == WIDE {
+        PAGE_ITEMS[c] as usize
+    } else {
+        2
+    }
 }
 
 // The least size of a page of class c, of the n items that the table says: who needs both reads the table once.
-pub fn page_need(w: usize, c: usize, n: usize) -> usize
-    requires { Width w × (c < (shape w).classes) × (n ≡ (shape w).per_page c) }
-    ensures { result ≡ page_need (shape w) c }
+pub fn page_need<W: Width>(c: usize, n: usize) -> usize
+    requires { (c < (shape W.BYTES).classes) × (n ≡ (shape W.BYTES).per_page c) }
+    ensures { result ≡ page_need (shape W.BYTES) c }
 {
-    2 * w + n * item_size(w, c)
+    2 * W::BYTES + n * item_size::<W>(c)
 }
 
 // The header of a free item of class c with the item at `next` after it on its list; its class and flags alone; and the header of an item in use for n bytes.
@@ -437,25 +420,22 @@ pub fn same_class(d: usize) -> bool
 }
 
 // What the header x of an item says: its class and its flags in one, its class, and the item after it on its list.
-pub fn class_and_flags(w: usize, x: usize) -> usize
-    requires { Width w }
-    ensures { result ≡ class_and_flags (shape w) x }
+pub fn class_and_flags<W: Width>(x: usize) -> usize
+    ensures { result ≡ class_and_flags (shape W.BYTES) x }
 {
-    x % (16 * w)
+    x % (16 * W::BYTES)
 }
 
-pub fn class_in(w: usize, x: usize) -> usize
-    requires { Width w }
-    ensures { (result ≡ class_in (shape w) x) × (result < (shape w).classes) }
+pub fn class_in<W: Width>(x: usize) -> usize
+    ensures { (result ≡ class_in (shape W.BYTES) x) × (result < (shape W.BYTES).classes) }
 {
-    class_and_flags(w, x) / 4
+    class_and_flags::<W>(x) / 4
 }
 
-pub fn next_in(w: usize, x: usize) -> ItemOffset
-    requires { Width w }
-    ensures { result.0 ≡ next_in (shape w) x }
+pub fn next_in<W: Width>(x: usize) -> ItemOffset
+    ensures { result.0 ≡ next_in (shape W.BYTES) x }
 {
-    ItemOffset(x / (16 * w) * w)
+    ItemOffset(x / (16 * W::BYTES) * W::BYTES)
 }
 
 // Its flags, and 1 where they are those of an item in use, 0 of a free one; and of one in use the size that was asked for.

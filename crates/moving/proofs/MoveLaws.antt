@@ -1,11 +1,6 @@
 -- A record moves: room is allocated, its bytes are copied there, and the old place is given back.
-use Prim.Native.Nat.{ℕ, ◌≤◌, min}
-use mathlib.Core.Path.{◌≡◌, refl, sym, ap, subst, ◌∙◌}
-use mathlib.Core.List.{List}
-use mathlib.Core.Logic.{inl, inr, ⊎_elim}
-use mathlib.Core.Option.{Option, none, some}
-use native.Mathlib.Omega.{arith}
-use lib.ListN.{length}
+use Rattle.std.proofs.Common.{ℕ, ◌≤◌, min, ◌≡◌, refl, sym, ap, subst, ◌∙◌, List, inl, inr, ⊎_elim, arith, length, Some, None}
+use Rattle.std.proofs.Math.Option.{Option as Given, none, some}
 use Rattle.words.specs.Copy.{copied, Room}
 use Rattle.model.specs.declared.Address.{Address}
 use Rattle.model.specs.Shape.{shape, end_of, start}
@@ -19,26 +14,18 @@ use Rattle.model.proofs.lives.Holding.{find_by, shown_most}
 use Rattle.model.proofs.lives.Payloads.{in_area}
 use Rattle.model.proofs.rules.Allocation.{Granted, allocate_grants}
 use Rattle.model.proofs.lives.Moving.{payload_of, found_live, live_apart, copied_here}
-use Rattle.engine.specs.declared.allocate.Taken.{Taken}
-use Rattle.engine.specs.declared.allocate.Taken.TheVariants.{At, NoRoom}
+use Rattle.std.proofs.lemmas.Option.{none-some, same_Some}
 use Rattle.engine.specs.Allocate.{Asked, taken_of, GivesSize}
 use Rattle.moving.specs.Move.{Holding, Carried}
 
 -- what an answer says of the rule
-not_both : (x : Address) → NoRoom ≡ At x → ⊥
-not_both x e = let z : ◌≡◌ {A = ℕ} 0 1 = cc in omega arith
-
-pub taken_none : (o : Option Made) → NoRoom ≡ taken_of o → o ≡ none
+pub taken_none : (o : Given Made) → None ≡ taken_of o → o ≡ none
 taken_none none e = refl
-taken_none (some m) e = absurd (not_both (record { 0 = m.at }) e)
+taken_none (some m) e = absurd (none-some (record { 0 = m.at }) e)
 
-pub taken_some : (o : Option Made) (x : Address) → At x ≡ taken_of o → (m : Made) × (o ≡ some m) × (x.0 ≡ m.at)
-taken_some none x e = absurd (not_both x (sym e))
-taken_some (some m) x e = (m, refl, ap address e)
-  where
-    address : Taken → ℕ
-    address (At y) = y.0
-    address NoRoom = 0
+pub taken_some : (o : Given Made) (x : Address) → Some x ≡ taken_of o → (m : Made) × (o ≡ some m) × (x.0 ≡ m.at)
+taken_some none x e = absurd (none-some x (sym e))
+taken_some (some m) x e = (m, refl, ap (λ (y : Address). y.0) (same_Some x (record { 0 = m.at }) e))
 
 -- the old place and the new, in a layout of the bytes
 module _ {w : ℕ} (b : List ℕ) (a k n : ℕ) (q : Holding w b a k) (s : Asked w n) (L : Layout) (h : Here (shape w) b L) (m : Made) (e : allocate (shape w) n L ≡ some m) where
@@ -73,19 +60,19 @@ module _ {w : ℕ} (b : List ℕ) (a k n : ℕ) (q : Holding w b a k) (s : Asked
       (copied_here (shape w) c m.layout hc grants.payload grants.adds.there a j (omega (arith, grants.large)) r.source)
 
 -- each way through carry
-module _ {w : ℕ} {b : List ℕ} {a k n : ℕ} (q : Holding w b a k) (s : Asked w n) {t : Taken} {c : List ℕ} (g : GivesSize w b n t c) where
-  pub not_carried : t ≡ NoRoom → Carried w b a k n NoRoom c
-  not_carried e =
+module _ {w : ℕ} {b : List ℕ} {a k n : ℕ} (q : Holding w b a k) (s : Asked w n) {c : List ℕ} where
+  pub not_carried : GivesSize w b n None c → Carried w b a k n None c
+  not_carried g =
       record {
         is = λ L h.
             let v = g.is L h in
-            let o : allocate (shape w) n L ≡ none = taken_none (allocate (shape w) n L) (sym e ∙ v.answer) in
+            let o : allocate (shape w) n L ≡ none = taken_none (allocate (shape w) n L) v.answer in
             rw o (record { answer = refl; bytes = rw o at v.bytes; here = rw o at v.here });
       }
 
-  module _ (x : Address) (e : t ≡ At x) where
+  module _ (x : Address) (g : GivesSize w b n (Some x) c) where
     chosen : (L : Layout) → Here (shape w) b L → (m : Made) × (allocate (shape w) n L ≡ some m) × (x.0 ≡ m.at)
-    chosen L h = taken_some (allocate (shape w) n L) x (sym e ∙ (g.is L h).answer)
+    chosen L h = taken_some (allocate (shape w) n L) x (g.is L h).answer
 
     pub room_to_copy : (bytes j : ℕ) → bytes ≡ length b → j ≡ min k n → Room bytes a x.0 j
     room_to_copy bytes j eb ej =
@@ -94,7 +81,7 @@ module _ {w : ℕ} {b : List ℕ} {a k n : ℕ} (q : Holding w b a k) (s : Asked
         let m = chosen L h in
         copy_room b a k n q s L h m.0 m.1 bytes x.0 j eb m.2 ej
 
-    pub was_carried : length c ≡ length b → (j : ℕ) → j ≡ min k n → (d : List ℕ) → d ≡ copied a x.0 j c → Carried w b a k n (At x) d
+    pub was_carried : length c ≡ length b → (j : ℕ) → j ≡ min k n → (d : List ℕ) → d ≡ copied a x.0 j c → Carried w b a k n (Some x) d
     was_carried ec j ej d ed =
         record {
           is = λ L h.
@@ -104,7 +91,7 @@ module _ {w : ℕ} {b : List ℕ} {a k n : ℕ} (q : Holding w b a k) (s : Asked
               let hc : Here (shape w) c m.0.layout = rw m.1 at v.here in
               rw m.1
               (record {
-                answer = ap (λ (y : ℕ). At (record { 0 = y })) m.2;
+                answer = ap (λ (y : ℕ). Some (record { 0 = y })) m.2;
                 bytes = ed ∙ ap (λ (y : ℕ). copied a y j c) m.2 ∙ ap (λ (y : ℕ). copied a m.0.at y c) ej ∙ ap (λ (y : List ℕ). copied a m.0.at (min k n) y) ec';
                 here = rw ed (carried_here b a k n q s L h m.0 m.1 c ec hc x.0 j m.2 ej);
               });

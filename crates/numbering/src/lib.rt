@@ -1,99 +1,82 @@
-// The calls for a C host, over the word size: numbers and a byte slice in, refusal × 2^32 + address out.
-// The crates `jagwibodu` and `jagwibodu_hand` give the word size, and the calls their names in C.
+// The calls for a C host, over the width of a word: numbers and a byte slice in, refusal × 2^32 + address out.
+// The crates `jagwibodu` and `jagwibodu_hand` give the width, and the calls their names in C.
 #![tactic(auto)]
 
-ghost use Rattle.std.specs.Prelude.{◌≡◌, [], ◌*◌, ◌^◌};
-ghost use Rattle.words.specs.Width.{Width};
+ghost use Rattle.std.specs.Prelude.{◌≡◌, []};
 ghost use Rattle.model.specs.Shape.{shape};
 ghost use Rattle.model.specs.Calls.{Initialises, Checks, Allocates, Frees, ResizesInPlace, Moves, Resizes, Sweeps};
-ghost use Rattle.examining.specs.Examined.{refusal_number};
 ghost use Rattle.serving.specs.Answers.{outcome, swept_outcome};
 ghost use Rattle.numbering.specs.Numbers.{Numbered};
 
-use examining::{Refusal, refusal_number};
-use model::{Address, Position};
-use serving::recovery::{Swept, sweep as swept};
+use model::{Address, Position, Refusal};
+use serving::recovery::sweep as swept;
 use serving::{Answer, resize as ways};
+use words::Width;
 
-// A refusal as one number: it stands above the address.
-fn refused(k: Refusal) -> u64
-    ensures { result ≡ refusal_number k * 2 ^ 32 }
+// A number that is granted as it is, or a refusal above it.
+fn pages(r: Result<usize, Refusal>) -> u64
+    ensures { result ≡ Rattle.model.specs.Calls.number (swept_outcome r []) }
 {
-    refusal_number(k) * 4294967296
+    match r {
+        Ok(n) => n as u64,
+        Err(k) => u64::from(k) * 4294967296,
+    }
 }
 
-// An answer as one number.
+// An answer as one number. By `r.map(|a| a.0)` it would be one line, but the closure's clause did not fit the law.
 fn number(r: Answer) -> u64
     ensures { result ≡ Rattle.model.specs.Calls.number (outcome r []) }
 {
     match r {
-        Answer::Granted(a) => a.0 as u64,
-        Answer::Refused(k) => refused(k),
+        Ok(a) => pages(Ok(a.0)),
+        Err(k) => pages(Err(k)),
     }
 }
 
-// A sweep's answer as one number.
-fn pages(r: Swept) -> u64
-    ensures { result ≡ Rattle.model.specs.Calls.number (swept_outcome r []) }
+pub fn initialise<W: Width>(h: &mut [u8], end: Position) -> u64
+    ensures { Numbered (Initialises (shape W.BYTES) h.old end.0) result h.new }
 {
-    match r {
-        Swept::Pages(n) => n as u64,
-        Swept::Refused(k) => refused(k),
-    }
+    number(serving::initialise::<W>(h, end))
 }
 
-pub fn initialise(w: usize, h: &mut [u8], end: Position) -> u64
-    requires { Width w }
-    ensures { Numbered (Initialises (shape w) h.old end.0) result h.new }
+pub fn check<W: Width>(h: &[u8]) -> u64
+    ensures { Numbered (Checks (shape W.BYTES) h.now) result h.now }
 {
-    number(serving::initialise(w, h, end))
+    number(serving::check::<W>(h))
 }
 
-pub fn check(w: usize, h: &[u8]) -> u64
-    requires { Width w }
-    ensures { Numbered (Checks (shape w) h.now) result h.now }
+pub fn allocate<W: Width>(h: &mut [u8], size: u64) -> u64
+    ensures { Numbered (Allocates (shape W.BYTES) h.old size) result h.new }
 {
-    number(serving::check(w, h))
+    number(serving::allocate::<W>(h, size as usize))
 }
 
-pub fn allocate(w: usize, h: &mut [u8], size: u64) -> u64
-    requires { Width w }
-    ensures { Numbered (Allocates (shape w) h.old size) result h.new }
+pub fn free<W: Width>(h: &mut [u8], address: u64) -> u64
+    ensures { Numbered (Frees (shape W.BYTES) h.old address) result h.new }
 {
-    number(serving::allocate(w, h, size as usize))
+    number(serving::free::<W>(h, Address(address as usize)))
 }
 
-pub fn free(w: usize, h: &mut [u8], address: u64) -> u64
-    requires { Width w }
-    ensures { Numbered (Frees (shape w) h.old address) result h.new }
+pub fn resize_in_place<W: Width>(h: &mut [u8], address: u64, size: u64) -> u64
+    ensures { Numbered (ResizesInPlace (shape W.BYTES) h.old address size) result h.new }
 {
-    number(serving::free(w, h, Address(address as usize)))
+    number(ways::resize_in_place::<W>(h, Address(address as usize), size as usize))
 }
 
-pub fn resize_in_place(w: usize, h: &mut [u8], address: u64, size: u64) -> u64
-    requires { Width w }
-    ensures { Numbered (ResizesInPlace (shape w) h.old address size) result h.new }
+pub fn relocate<W: Width>(h: &mut [u8], address: u64, size: u64) -> u64
+    ensures { Numbered (Moves (shape W.BYTES) h.old address size) result h.new }
 {
-    number(ways::resize_in_place(w, h, Address(address as usize), size as usize))
+    number(ways::relocate::<W>(h, Address(address as usize), size as usize))
 }
 
-pub fn relocate(w: usize, h: &mut [u8], address: u64, size: u64) -> u64
-    requires { Width w }
-    ensures { Numbered (Moves (shape w) h.old address size) result h.new }
+pub fn resize<W: Width>(h: &mut [u8], address: u64, size: u64) -> u64
+    ensures { Numbered (Resizes (shape W.BYTES) h.old address size) result h.new }
 {
-    number(ways::relocate(w, h, Address(address as usize), size as usize))
+    number(trying::resize::<W>(h, Address(address as usize), size as usize))
 }
 
-pub fn resize(w: usize, h: &mut [u8], address: u64, size: u64) -> u64
-    requires { Width w }
-    ensures { Numbered (Resizes (shape w) h.old address size) result h.new }
+pub fn sweep<W: Width>(h: &mut [u8]) -> u64
+    ensures { Numbered (Sweeps (shape W.BYTES) h.old) result h.new }
 {
-    number(trying::resize(w, h, Address(address as usize), size as usize))
-}
-
-pub fn sweep(w: usize, h: &mut [u8]) -> u64
-    requires { Width w }
-    ensures { Numbered (Sweeps (shape w) h.old) result h.new }
-{
-    pages(swept(w, h))
+    pages(swept::<W>(h))
 }

@@ -1,9 +1,5 @@
 -- The items of a new page, linked one after the other.
-use Prim.Native.Nat.{ℕ, zero, suc, ◌+◌, ◌-◌, ◌*◌, ◌<◌, ◌≤◌}
-use mathlib.Core.Path.{◌≡◌, refl, sym, ap, subst, ◌∙◌}
-use mathlib.Core.List.{List}
-use native.Mathlib.Omega.{arith}
-use lib.ListN.{length, get_or}
+use Rattle.std.proofs.Common.{ℕ, zero, suc, ◌+◌, ◌-◌, ◌*◌, ◌<◌, ◌≤◌, ◌≡◌, refl, sym, ap, subst, ◌∙◌, List, arith, length, get_or}
 use Rattle.words.specs.Width.{Width}
 use Rattle.words.specs.Word.{put, Bytes}
 use Rattle.words.proofs.WordLaws.{length_put, put_out, word_same, bytes_put}

@@ -1,10 +1,5 @@
 -- A page is written in a free block: the head of its class, its block and its items.
-use Prim.Native.Nat.{ℕ, ◌+◌, ◌<◌, ◌≤◌}
-use mathlib.Core.Path.{◌≡◌, refl, sym, ap, ◌∙◌}
-use mathlib.Core.List.{List, [], ◌∷◌, ◌++◌}
-use native.Mathlib.Omega.{arith}
-use lib.ListN.{length, get_or, set}
-use lib.Seq.{get_or-set_same}
+use Rattle.std.proofs.Common.{◌≡◌, ℕ, ◌+◌, ◌*◌, ◌<◌, ◌≤◌, List, [], ◌∷◌, ◌++◌, length, get_or, set, refl, sym, ap, ◌∙◌, arith, get_or-set_same}
 use Rattle.words.specs.Width.{Width}
 use Rattle.words.specs.Word.{put, Bytes}
 use Rattle.words.proofs.WordLaws.{length_put, bytes_put}
@@ -29,7 +24,7 @@ use Rattle.placing.specs.declared.Gap.{Gap}
 use Rattle.placing.specs.Blocks.{GapRead, low_words, high_words}
 use Rattle.pages.specs.Pages.{NoItem}
 use Rattle.placing.proofs.Taking.{s_is, gap_drawn}
-use Rattle.model.proofs.Sizes.{per_page_bound, page_eight, words_fit}
+use Rattle.model.proofs.Sizes.{per_page_bound, page_eight, words_fit, most_bound}
 
 -- the words of a page that takes u bytes at p
 page_words : {w : ℕ} → Width w → (ls : List (List ℕ)) (c p u : ℕ) → index (shape w) ≤ p → page_need (shape w) c ≤ u → c < length ls
@@ -40,11 +35,15 @@ page_words {w} wd ls c p u low l cl =
 
 module _ {w : ℕ} {b : List ℕ} {p c : ℕ} (k : NoItem w b c) where
   module _ {L : Layout} {t : Spot} (x : SpotIn (shape w) b p (page_need (shape w) c) L t) where
-    pub page_low : start (shape w) ≤ p
+    page_low : start (shape w) ≤ p
     page_low = start_le (shape w) (spot_middle (shape w) x)
 
-    pub page_in_lem : p + page_need (shape w) c ≤ length b
+    page_in_lem : p + page_need (shape w) c ≤ length b
     page_in_lem = omega (arith, block_in (shape w) (spot_middle (shape w) x), x.split.large)
+
+    -- where the page may stand, in numbers
+    pub page_fits : (start (shape w) ≤ p) × (p + page_need (shape w) c ≤ length b) × (length b ≤ (shape w).most) × ((shape w).most ≤ 131072 * w)
+    page_fits = (page_low, page_in_lem, k.short, most_bound k.width)
 
     empty : get_or L.lists c [] ≡ []
     empty = empty_list (shape w) (shape_good k.width) b L x.here c k.class k.short k.none

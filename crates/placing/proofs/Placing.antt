@@ -1,9 +1,5 @@
 -- A variable block is written in a free block that was read.
-use Prim.Native.Nat.{ℕ}
-use mathlib.Core.Path.{◌≡◌, refl, ap, ◌∙◌}
-use mathlib.Core.List.{List, []}
-use native.Mathlib.Omega.{arith}
-use lib.ListN.{length}
+use Rattle.std.proofs.Common.{ℕ, ◌≡◌, refl, ap, ◌∙◌, List, [], arith, length}
 use Rattle.words.specs.Word.{Bytes}
 use Rattle.model.specs.Shape.{shape}
 use Rattle.model.specs.Parts.{variable_kind}

@@ -1,11 +1,5 @@
 -- A free block is read, and a block in use written in its place: the words of links, tags and rest.
-use Prim.Native.Nat.{ℕ, ◌+◌, ◌-◌, ◌^◌, ◌<◌, ◌≤◌}
-use mathlib.Core.Path.{◌≡◌, sym, ap, ◌∙◌}
-use mathlib.Core.List.{List, [], ◌∷◌, ◌++◌, append_assoc}
-use mathlib.Core.Logic.{⊎_elim}
-use native.Mathlib.Omega.{arith}
-use lib.ListN.{length}
-use borrow.Author.Tests.{lt-ltb, le-ltb}
+use Rattle.std.proofs.Common.{ℕ, ◌+◌, ◌-◌, ◌^◌, ◌<◌, ◌≤◌, ◌≡◌, sym, ap, ◌∙◌, List, [], ◌∷◌, ◌++◌, append_assoc, ⊎_elim, arith, length, lt-ltb, le-ltb}
 use Rattle.words.specs.Width.{Width}
 use Rattle.words.specs.Word.{word_at, put, Bytes}
 use Rattle.model.specs.Shape.{shape, tags, least_free}

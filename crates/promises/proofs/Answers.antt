@@ -1,10 +1,6 @@
 -- What a call of a run answers and leaves is what the rules say of its heap's layout, and the layout that is left is that of the buffer.
-use Prim.Native.Nat.{ℕ, ◌≤◌, ◌<◌, ◌%◌}
-use mathlib.Core.Path.{◌≡◌, refl, sym, ap, subst, ◌∙◌}
-use mathlib.Core.List.{List}
-use mathlib.Core.Option.{none}
-use native.Mathlib.Omega.{arith}
-use lib.ListN.{length, get_or}
+use Rattle.std.proofs.Common.{ℕ, ◌≤◌, ◌<◌, ◌%◌, ◌≡◌, refl, sym, ap, subst, ◌∙◌, List, arith, length, get_or}
+use Rattle.std.proofs.Math.Option.{none}
 use Rattle.words.specs.Width.{Width}
 use Rattle.words.specs.Word.{Bytes}
 use Rattle.model.specs.Shape.{shape, start, end_of}

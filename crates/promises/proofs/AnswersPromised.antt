@@ -1,11 +1,6 @@
 -- Demands 1 and 2 of what the calls answer: those of outcomes, through what an answer means.
-use Prim.Native.Nat.{ℕ, zero, suc, ◌+◌, ◌-◌, ◌≤◌}
-use mathlib.Core.Path.{◌≡◌, refl, sym, ap, subst, ◌∙◌}
+use Rattle.std.proofs.Common.{ℕ, zero, suc, ◌+◌, ◌-◌, ◌≤◌, ◌≡◌, refl, sym, ap, subst, ◌∙◌, ◌↔◌, List, [], ◌∷◌, ◌++◌, arith, length, get_or, replicate, Result, Ok, Err}
 use mathlib.Core.Logic.Iff
-use mathlib.Core.Logic.{◌↔◌}
-use mathlib.Core.List.{List, [], ◌∷◌, ◌++◌}
-use native.Mathlib.Omega.{arith}
-use lib.ListN.{length, get_or, replicate}
 use Rattle.words.specs.Width.{Width}
 use Rattle.model.specs.Shape.{shape, end_of}
 use Rattle.model.specs.Layout.{Layout}
@@ -22,15 +17,13 @@ use Rattle.model.proofs.lives.LiveFound.{is_there}
 use Rattle.model.proofs.walks.Columns.{columns_add}
 use Rattle.reading.specs.Counting.{table_rows}
 use Rattle.reading.proofs.TableLaws.{table_rows_lem}
-use Rattle.serving.specs.declared.Answer.{Answer}
-use Rattle.serving.specs.declared.Answer.TheVariants.{Granted, Refused}
-use Rattle.examining.specs.declared.Refusal.{Refusal}
-use Rattle.examining.specs.declared.Refusal.TheVariants as why
-use Rattle.serving.specs.declared.counting.Counted.{Counted}
-use Rattle.examining.specs.Examined.{refusal_number}
-use Rattle.serving.specs.Answers.{outcome}
+use Rattle.model.specs.declared.refusals.Refusal.{Refusal}
+use Rattle.model.specs.declared.refusals.Refusal.TheVariants as why
+use Rattle.reading.specs.declared.counting.Statistics.{Statistics}
+use Rattle.model.specs.Refused.{refusal_number}
+use Rattle.serving.specs.Answers.{Answer, outcome}
 use Rattle.serving.proofs.Outcomes.{heap_of_lem}
-use Rattle.serving.specs.Counting.{told_counted, rows_of, TableTold}
+use Rattle.serving.specs.Counting.{told_counted, rows_of, told_table, TableTold}
 use Rattle.promises.specs.Answered.{AnswersPromised}
 use Rattle.promises.proofs.Stable.{numbers}
 use Rattle.promises.proofs.Cases.{checked_cases}
@@ -39,20 +32,20 @@ use Rattle.promises.proofs.Promised.{promised}
 use Rattle.promises.proofs.OneResult.{refusal_some, refusal_one, outcome_one}
 
 -- an answer is granted exactly where its number is 0, and is a refusal exactly where its number is that refusal's
-is_granted : (r : Answer) (c : List ℕ) → ((a : Address) × (r ≡ Granted a)) ↔ ((outcome r c).refusal ≡ 0)
-is_granted (Granted a) c = ((λ x. refl), (λ e. (a, refl)))
-is_granted (Refused k) c = ((λ x. ap (λ (z : Answer). (outcome z c).refusal) x.1), (λ e. absurd (omega (arith, e, refusal_some k))))
+is_granted : (r : Answer) (c : List ℕ) → ((a : Address) × (r ≡ Ok a)) ↔ ((outcome r c).refusal ≡ 0)
+is_granted (Ok a) c = ((λ x. refl), (λ e. (a, refl)))
+is_granted (Err k) c = ((λ x. ap (λ (z : Answer). (outcome z c).refusal) x.1), (λ e. absurd (omega (arith, e, refusal_some k))))
 
-is_refused : (j : Refusal) (r : Answer) (c : List ℕ) → (r ≡ Refused j) ↔ ((outcome r c).refusal ≡ refusal_number j)
-is_refused j (Granted a) c = ((λ e. ap (λ (z : Answer). (outcome z c).refusal) e), (λ e. absurd (omega (arith, e, refusal_some j))))
-is_refused j (Refused k) c = ((λ e. ap (λ (z : Answer). (outcome z c).refusal) e), (λ e. ap (λ (z : Refusal). Refused z) (refusal_one k j e)))
+is_refused : (j : Refusal) (r : Answer) (c : List ℕ) → (r ≡ Err j) ↔ ((outcome r c).refusal ≡ refusal_number j)
+is_refused j (Ok a) c = ((λ e. ap (λ (z : Answer). (outcome z c).refusal) e), (λ e. absurd (omega (arith, e, refusal_some j))))
+is_refused j (Err k) c = ((λ e. ap (λ (z : Answer). (outcome z c).refusal) e), (λ e. ap (λ (z : Refusal). Err z) (refusal_one k j e)))
 
 -- the table's columns and the statistics, where both tell the same blocks
-told_columns : (r : Counted) (t u : List (List ℕ)) (k : ℕ) (s : reading.Statistics) → told_counted r ≡ record { refusal = k; answer = s } → t ≡ u
-    → (column 0 u ≡ s.pages) × (column 1 u ≡ s.items) → (column 0 t ≡ r.statistics.pages) × (column 1 t ≡ r.statistics.items)
-told_columns r t u k s e f h = (
-  ap (λ (z : List (List ℕ)). column 0 z) f ∙ h.0 ∙ sym (ap (λ (z : Told reading.Statistics). z.answer.pages) e),
-  ap (λ (z : List (List ℕ)). column 1 z) f ∙ h.1 ∙ sym (ap (λ (z : Told reading.Statistics). z.answer.items) e),
+told_columns : (r : Told reading.Statistics) (t : Told (List (List ℕ))) (u : List (List ℕ)) (k j : ℕ) (s : reading.Statistics) → r ≡ record { refusal = k; answer = s } → t ≡ record { refusal = j; answer = u }
+    → (column 0 u ≡ s.pages) × (column 1 u ≡ s.items) → (column 0 t.answer ≡ r.answer.pages) × (column 1 t.answer ≡ r.answer.items)
+told_columns r t u k j s e f h = (
+  ap (λ (z : Told (List (List ℕ))). column 0 z.answer) f ∙ h.0 ∙ sym (ap (λ (z : Told reading.Statistics). z.answer.pages) e),
+  ap (λ (z : Told (List (List ℕ))). column 1 z.answer) f ∙ h.1 ∙ sym (ap (λ (z : Told reading.Statistics). z.answer.items) e),
 )
 
 -- rows of zeros behind a table add nothing to its columns
@@ -96,27 +89,28 @@ module _ {w : ℕ} (wd : Width w) where
       (column_more 0 (table_rows - (shape w).classes) (table (shape w) L.blocks) ∙ x.0, column_more 1 (table_rows - (shape w).classes) (table (shape w) L.blocks) ∙ x.1)
 
   -- what holds in each case of the check, of a pair of equal numbers
-  columns_told : (b : List ℕ) (r : Counted) (t : List (List ℕ)) → Counts (shape w) b (told_counted r) → TableTold w b t → (column 0 t ≡ r.statistics.pages) × (column 1 t ≡ r.statistics.items)
+  columns_told : (b : List ℕ) (r : Result Statistics Refusal) (t : Result (List (List ℕ)) Refusal) → Counts (shape w) b (told_counted r) → TableTold w b t
+      → (column 0 (told_table w t).answer ≡ (told_counted r).answer.pages) × (column 1 (told_table w t).answer ≡ (told_counted r).answer.items)
   columns_told b r t x y = (
-    numbers (column 0 t) r.statistics.pages (checked_cases (shape w) b (λ m. (none (x.one m) (y.one m)).0) (λ l m. (none (x.two l m) (y.two l m)).0) (λ l o m. (none (x.three l o m) (y.three l o m)).0) (λ l L h. (some_of L h (x.sound l L h) (y.sound l L h)).0)),
-    numbers (column 1 t) r.statistics.items (checked_cases (shape w) b (λ m. (none (x.one m) (y.one m)).1) (λ l m. (none (x.two l m) (y.two l m)).1) (λ l o m. (none (x.three l o m) (y.three l o m)).1) (λ l L h. (some_of L h (x.sound l L h) (y.sound l L h)).1)),
+    numbers (column 0 (told_table w t).answer) (told_counted r).answer.pages (checked_cases (shape w) b (λ m. (none (x.one m) (y.one m)).0) (λ l m. (none (x.two l m) (y.two l m)).0) (λ l o m. (none (x.three l o m) (y.three l o m)).0) (λ l L h. (some_of L h (x.sound l L h) (y.sound l L h)).0)),
+    numbers (column 1 (told_table w t).answer) (told_counted r).answer.items (checked_cases (shape w) b (λ m. (none (x.one m) (y.one m)).1) (λ l m. (none (x.two l m) (y.two l m)).1) (λ l o m. (none (x.three l o m) (y.three l o m)).1) (λ l L h. (some_of L h (x.sound l L h) (y.sound l L h)).1)),
   )
     where
-      none : {k : ℕ} → told_counted r ≡ record { refusal = k; answer = counted [] } → t ≡ rows_of w [] → (column 0 t ≡ r.statistics.pages) × (column 1 t ≡ r.statistics.items)
-      none {k} e f = told_columns r t (rows_of w []) k (counted []) e f none_columns
+      none : {k j : ℕ} → told_counted r ≡ record { refusal = k; answer = counted [] } → told_table w t ≡ record { refusal = j; answer = rows_of w [] } → (column 0 (told_table w t).answer ≡ (told_counted r).answer.pages) × (column 1 (told_table w t).answer ≡ (told_counted r).answer.items)
+      none {k} {j} e f = told_columns (told_counted r) (told_table w t) (rows_of w []) k j (counted []) e f none_columns
 
-      some_of : (L : Layout) → HereIn (shape w) b L → told_counted r ≡ record { refusal = 0; answer = counted L.blocks } → t ≡ rows_of w L.blocks → (column 0 t ≡ r.statistics.pages) × (column 1 t ≡ r.statistics.items)
-      some_of L h e f = told_columns r t (rows_of w L.blocks) 0 (counted L.blocks) e f (rows_columns (end_of (length (heap_of (shape w) b))) L h.here.valid)
+      some_of : (L : Layout) → HereIn (shape w) b L → told_counted r ≡ record { refusal = 0; answer = counted L.blocks } → told_table w t ≡ record { refusal = 0; answer = rows_of w L.blocks } → (column 0 (told_table w t).answer ≡ (told_counted r).answer.pages) × (column 1 (told_table w t).answer ≡ (told_counted r).answer.items)
+      some_of L h e f = told_columns (told_counted r) (told_table w t) (rows_of w L.blocks) 0 0 (counted L.blocks) e f (rows_columns (end_of (length (heap_of (shape w) b))) L h.here.valid)
 
   pub answers_promised : AnswersPromised w
   unfolding Comes
   answers_promised =
       record {
-        refused_untouched = λ b q k c x. ap (λ (o : Outcome). o.heap) ((promised wd).refused_untouched b q (outcome (Refused k) c) x (λ e. omega (arith, e, refusal_some k)));
+        refused_untouched = λ b q k c x. ap (λ (o : Outcome). o.heap) ((promised wd).refused_untouched b q (outcome (Err k) c) x (λ e. omega (arith, e, refusal_some k)));
         answers_only = λ b q r c x. (promised wd).answers_only b q (outcome r c) x;
         accepts_exactly = λ b r c x. Iff.trans (is_granted r c) ((promised wd).accepts_exactly b (outcome r c) x);
         stays_sound = λ b q r c x s. subst (λ (d : List ℕ). SoundIn (shape w) d) (heap_of_lem r c) ((promised wd).stays_sound b q (outcome r c) x s);
-        opens_sound = λ b e a c x. (promised wd).opens_sound b e (outcome (Granted a) c) x refl;
+        opens_sound = λ b e a c x. (promised wd).opens_sound b e (outcome (Ok a) c) x refl;
         end_rises = λ b q r c x s. subst (λ (d : List ℕ). stored_end (shape w) b ≤ stored_end (shape w) d) (heap_of_lem r c) ((promised wd).end_rises b q (outcome r c) x s);
         end_stays = λ b q r c x s z. subst (λ (d : List ℕ). stored_end (shape w) d ≡ stored_end (shape w) b) (heap_of_lem r c) ((promised wd).end_stays b q (outcome r c) x s z);
         behind_untouched = λ b q r c x. subst (λ (d : List ℕ). (i : ℕ) → stored_end (shape w) d ≤ i → get_or d i 0 ≡ get_or b i 0) (heap_of_lem r c) ((promised wd).behind_untouched b q (outcome r c) x);
@@ -141,7 +135,7 @@ module _ {w : ℕ} (wd : Width w) where
             );
         smaller_kept = λ b n r c L l h x i one le m.
             let y = (promised wd).smaller_kept b n (outcome r c) L l h x i one le m in
-            ((is_granted r c).1 y.0, λ s k. outcome_one r (Granted (record { 0 = x.address })) c b (y.1 s k));
+            ((is_granted r c).1 y.0, λ s k. outcome_one r (Ok (record { 0 = x.address })) c b (y.1 s k));
         columns_add = columns_told;
       }
     where

@@ -1,11 +1,6 @@
 -- An item that is granted for n bytes shows n bytes.
-use Prim.Native.Nat.{ℕ, ◌≤◌}
-use mathlib.Core.Path.{◌≡◌, refl, sym, ap, subst, ◌∙◌}
-use mathlib.Core.List.{List}
-use mathlib.Core.Logic.{◌⊎◌, inl, inr, ⊎_elim}
-use mathlib.Core.Option.{Option, none, some}
-use native.Mathlib.Omega.{arith}
-use lib.ListN.{length}
+use Rattle.std.proofs.Common.{ℕ, ◌≤◌, ◌≡◌, refl, sym, ap, subst, ◌∙◌, List, ◌⊎◌, inl, inr, ⊎_elim, arith, length}
+use Rattle.std.proofs.Math.Option.{Option, none, some}
 use Rattle.words.specs.Width.{Width}
 use Rattle.model.specs.Shape.{shape, largest_item, end_of}
 use Rattle.model.specs.Layout.{Layout}

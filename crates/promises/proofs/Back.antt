@@ -1,12 +1,6 @@
 -- Everything comes back: of a fresh heap, after any run, then all live payloads freed in any order, then a sweep, a fresh heap is left.
-use Prim.Native.Nat.{ℕ, ◌≤◌, ◌<◌}
-use mathlib.Core.Path.{◌≡◌, refl, sym, ap, subst, ◌∙◌}
-use mathlib.Core.List.{List, [], ◌∷◌, ◌++◌}
-use mathlib.Core.Logic.{⊎_elim}
-use native.Mathlib.Omega.{arith}
-use native.Mathlib.Decide.{dec_lt}
-use lib.ListN.{length, get_or, take}
-use lib.Seq.{ext_get_or, get_or-take, length-take-le}
+use Rattle.std.proofs.Common.{ℕ, ◌≤◌, ◌<◌, ◌≡◌, refl, sym, ap, subst, ◌∙◌, List, [], ◌∷◌, ◌++◌, ⊎_elim, arith, length, get_or, take, ext_get_or, get_or-take, length-take-le}
+use Rattle.std.proofs.Math.Decide.{dec_lt}
 use Rattle.words.specs.Width.{Width}
 use Rattle.words.specs.Word.{put}
 use Rattle.words.proofs.WordLaws.{length_put, put_out}

@@ -1,5 +1,5 @@
--- Every demand of what the calls answer, proved once over the word size: so of the crate `heap`, and of the crate `hand`.
-use Prim.Native.Nat.{ℕ}
+-- Every demand of what the calls answer, proved once over the word size: so of the calls of `heap` at `Wide`, and at `Hand`.
+use Rattle.std.proofs.Common.{ℕ}
 use Rattle.words.specs.Width.{Width}
 use Rattle.model.proofs.Sizes.{eight, four}
 use Rattle.promises.specs.Answered.{CallsPromised}

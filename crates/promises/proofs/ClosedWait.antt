@@ -1,10 +1,5 @@
 -- A free item of a closed class is never handed out: it stays on its list, and no call but a sweep answers its address.
-use Prim.Native.Nat.{ℕ, ◌≤◌}
-use mathlib.Core.Path.{◌≡◌, refl, sym, ap, subst, ◌∙◌}
-use mathlib.Core.List.{List}
-use mathlib.Core.Logic.{◌⊎◌, inl, inr, ⊎_elim}
-use native.Mathlib.Omega.{arith}
-use lib.ListN.{length}
+use Rattle.std.proofs.Common.{ℕ, ◌≤◌, ◌≡◌, refl, sym, ap, subst, ◌∙◌, List, ◌⊎◌, inl, inr, ⊎_elim, arith, length}
 use Rattle.words.specs.Width.{Width}
 use Rattle.model.specs.Shape.{shape, end_of}
 use Rattle.model.specs.Layout.{Layout}

@@ -1,9 +1,5 @@
 -- What any call answers of a sound heap, and leaves, is what the rules say of its layout.
-use Prim.Native.Nat.{ℕ, ◌≤◌}
-use mathlib.Core.Path.{◌≡◌, refl, sym, ap, subst}
-use mathlib.Core.List.{List}
-use native.Mathlib.Omega.{arith}
-use lib.ListN.{length}
+use Rattle.std.proofs.Common.{ℕ, ◌≤◌, ◌≡◌, refl, sym, ap, subst, List, arith, length}
 use Rattle.words.specs.Width.{Width}
 use Rattle.model.specs.Shape.{shape, end_of}
 use Rattle.model.specs.Layout.{Layout}

@@ -1,8 +1,5 @@
 -- What is found at an address is what is live there, and a look-up gives what is shown of its content.
-use Prim.Native.Nat.{ℕ}
-use mathlib.Core.Path.{◌≡◌, refl, sym, ap, subst, ◌∙◌}
-use native.Mathlib.Omega.{arith}
-use lib.ListN.{take, drop}
+use Rattle.std.proofs.Common.{ℕ, ◌≡◌, refl, sym, ap, subst, ◌∙◌, arith, take, drop}
 use Rattle.words.specs.Width.{Width}
 use Rattle.model.specs.Shape.{shape, start}
 use Rattle.model.specs.Layout.{Layout, ends}

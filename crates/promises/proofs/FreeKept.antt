@@ -1,10 +1,5 @@
 -- Free alters no payload but its own, and makes that one dead and no other.
-use Prim.Native.Nat.{ℕ}
-use mathlib.Core.Path.{◌≡◌, refl, sym, ap, subst, ◌∙◌}
-use mathlib.Core.List.{List}
-use mathlib.Core.Logic.{⊎_elim}
-use native.Mathlib.Omega.{arith}
-use lib.ListN.{length}
+use Rattle.std.proofs.Common.{ℕ, ◌≡◌, refl, sym, ap, subst, ◌∙◌, List, ⊎_elim, arith, length}
 use Rattle.words.specs.Width.{Width}
 use Rattle.model.specs.Shape.{shape, end_of}
 use Rattle.model.specs.Layout.{Layout}

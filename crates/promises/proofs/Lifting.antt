@@ -1,10 +1,5 @@
 -- What a rule keeps of a heap's own bytes it keeps in the buffer.
-use Prim.Native.Nat.{ℕ, min}
-use mathlib.Core.Path.{◌≡◌, sym, ap, subst, ◌∙◌}
-use mathlib.Core.List.{List}
-use mathlib.Core.Logic.{inl, inr, ⊎_elim}
-use native.Mathlib.Omega.{arith}
-use lib.ListN.{length, take}
+use Rattle.std.proofs.Common.{ℕ, min, ◌≡◌, sym, ap, subst, ◌∙◌, List, inl, inr, ⊎_elim, arith, length, take}
 use Rattle.words.specs.Width.{Width}
 use Rattle.model.specs.Shape.{shape, end_of}
 use Rattle.model.specs.Layout.{Layout}

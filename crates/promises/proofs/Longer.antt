@@ -1,10 +1,6 @@
 -- Demand 3: of two fresh heaps, one in a longer buffer, both started at their furthest ends or both at the same end, the same run of allocations, frees and sweeps gives the same answers, as long as the one in the shorter never says "no room".
 -- And of two heaps of one layout, in buffers of one length, the same run of any calls does.
-use Prim.Native.Nat.{ℕ, ◌≤◌}
-use mathlib.Core.Path.{◌≡◌, refl, sym, ap, subst}
-use mathlib.Core.List.{List}
-use native.Mathlib.Omega.{arith}
-use lib.ListN.{length}
+use Rattle.std.proofs.Common.{ℕ, ◌≤◌, ◌≡◌, refl, sym, ap, subst, List, arith, length}
 use Rattle.words.specs.Width.{Width}
 use Rattle.model.specs.Shape.{shape, end_of}
 use Rattle.model.specs.Layout.{Layout}

@@ -1,10 +1,5 @@
 -- An item that was granted for n bytes is looked up as n bytes: of what the calls answer.
-use Prim.Native.Nat.{ℕ}
-use mathlib.Core.Path.{◌≡◌, refl, ap, subst, ◌∙◌}
-use mathlib.Core.List.{List}
-use native.Mathlib.Omega.{arith}
-use lib.ListN.{length, drop, length-drop}
-use lib.Seq.{length-take-le}
+use Rattle.std.proofs.Common.{ℕ, ◌≡◌, refl, ap, subst, ◌∙◌, List, arith, length, drop, length-drop, length-take-le}
 use Rattle.words.specs.Width.{Width}
 use Rattle.model.specs.Shape.{shape, end_of}
 use Rattle.model.specs.Layout.{Layout}

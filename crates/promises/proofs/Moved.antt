@@ -1,12 +1,7 @@
 -- A record that moves: allocate, copy, free the old. What the three leave, one after the other.
-use Prim.Native.Nat.{ℕ, ◌+◌, ◌-◌, ◌≤◌, ◌<◌, min}
-use mathlib.Core.Path.{◌≡◌, refl, sym, ap, subst, ◌∙◌}
-use mathlib.Core.List.{List}
-use mathlib.Core.Logic.{inl, inr, ⊎_elim}
-use mathlib.Core.Option.{some}
-use native.Mathlib.Omega.{arith}
-use lib.ListN.{length, get_or, take, drop}
-use native.Mathlib.Decide.{dec_le, dec_lt}
+use Rattle.std.proofs.Common.{ℕ, ◌+◌, ◌-◌, ◌≤◌, ◌<◌, min, ◌≡◌, refl, sym, ap, subst, ◌∙◌, List, inl, inr, ⊎_elim, arith, length, get_or, take, drop}
+use Rattle.std.proofs.Math.Option.{some}
+use Rattle.std.proofs.Math.Decide.{dec_le, dec_lt}
 use Rattle.words.specs.Width.{Width}
 use Rattle.words.specs.Copy.{copied}
 use Rattle.words.specs.Word.{Bytes}

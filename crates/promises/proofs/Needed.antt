@@ -1,11 +1,7 @@
 -- How much room an allocation needs on a fresh heap: document 01's two figures and the hand unit's, for every length.
-use Prim.Native.Nat.{ℕ, zero, suc, ◌+◌, ◌-◌, ◌%◌, ◌≤◌, ◌<◌}
-use mathlib.Core.Path.{◌≡◌, refl, sym, ap, subst, ◌∙◌}
-use mathlib.Core.List.{List, []}
-use mathlib.Core.Logic.{◌↔◌, inl, ⊎_elim}
-use mathlib.Core.Option.{none, none-ne-some}
-use native.Mathlib.Omega.{arith}
-use lib.ListN.{length, get_or, replicate}
+use Rattle.std.proofs.Common.{ℕ, zero, suc, ◌+◌, ◌-◌, ◌%◌, ◌≤◌, ◌<◌, ◌≡◌, refl, sym, ap, subst, ◌∙◌, List, [], inl, ⊎_elim, arith, length, get_or, replicate}
+use Rattle.std.proofs.Math.Logic.{◌↔◌}
+use Rattle.std.proofs.Math.Option.{none, none-ne-some}
 use Rattle.words.specs.Width.{Width}
 use Rattle.model.specs.Shape.{shape, start, largest_item, class_of, need_of, page_need, end_of}
 use Rattle.model.specs.Layout.{free, Layout}

@@ -1,12 +1,5 @@
 -- Any two results that a public contract allows are equal: the calls' own answers, the C numbers and the reading calls. Of every word size.
-use Prim.Native.Nat.{ℕ, ◌≤◌}
-use mathlib.Core.Path.{◌≡◌, refl, sym, ap, ap₂, ◌∙◌}
-use mathlib.Core.Bool.{cond}
-use mathlib.Core.List.{List}
-use native.Mathlib.Omega.{arith}
-use native.Mathlib.Decide.{ℕ_discrete}
-use lib.ListN.{length}
-use lib.Dec.{eqb}
+use Rattle.std.proofs.Common.{ℕ, ◌≤◌, ◌≡◌, refl, sym, ap, ap₂, ◌∙◌, cond, eqb, List, arith, Option, Some, None, Result, Ok, Err, Bor, MutBor}
 use Rattle.model.specs.Shape.{shape}
 use Rattle.model.specs.Sound.{SoundIn}
 use Rattle.model.specs.Reading as reading
@@ -15,24 +8,20 @@ use Rattle.model.specs.Calls.{Outcome, Told, Lent, number}
 use Rattle.model.specs.Promises.{sweeping, Comes}
 use Rattle.model.proofs.pictures.Fronts.{own_opened}
 use Rattle.reading.specs.declared.stepping.Kind.{Kind}
-use Rattle.reading.specs.declared.stepping.Kind.TheVariants.{Free, Variable, Page, End}
+use Rattle.reading.specs.declared.stepping.Kind.TheVariants.{Free, Variable, Page}
 use Rattle.reading.specs.Stepping.{told_kind}
-use Rattle.serving.specs.declared.Answer.{Answer}
-use Rattle.serving.specs.declared.Answer.TheVariants.{Granted, Refused}
-use Rattle.examining.specs.declared.Refusal.{Refusal}
-use Rattle.examining.specs.declared.Refusal.TheVariants.{BadLength, NotOpened, NotSound, BadSize, NotLive, NoRoom, AlreadyOpened, BadEnd}
-use Rattle.serving.specs.declared.recovery.Swept.{Swept}
-use Rattle.serving.specs.declared.recovery.Swept.TheVariants as swept
-use Rattle.examining.specs.declared.Verdict.{Verdict}
-use Rattle.examining.specs.declared.Verdict.TheVariants.{Fine, Unfit}
-use Rattle.serving.specs.declared.counting.Counted.{Counted}
+use Rattle.reading.specs.declared.stepping.MetBlock.{MetBlock}
+use Rattle.reading.specs.declared.counting.Statistics.{Statistics}
+use Rattle.model.specs.declared.refusals.Refusal.{Refusal}
+use Rattle.model.specs.declared.refusals.Refusal.TheVariants.{BadLength, NotOpened, NotSound, BadSize, NotLive, NoRoom, AlreadyOpened, BadEnd}
 use Rattle.serving.specs.declared.walks.Step.{Step}
-use Rattle.examining.specs.Examined.{refusal_number, UnfitFor, Examined}
-use Rattle.serving.specs.Answers.{outcome, swept_outcome}
-use Rattle.serving.specs.Counting.{told_counted}
-use Rattle.serving.specs.Walking.{told_step}
-use Rattle.serving.specs.Lookup.{PartAt}
-use Rattle.promises.specs.Answered.{OneResult}
+use Rattle.examining.specs.Examined.{UnfitFor, Examined}
+use Rattle.model.specs.Refused.{refusal_number}
+use Rattle.serving.specs.Answers.{Answer, Swept, outcome, swept_outcome}
+use Rattle.serving.specs.Counting.{told_counted, told_table}
+use Rattle.serving.specs.Walking.{told_next, told_step}
+use Rattle.serving.specs.Lookup.{PartAt, NoPart, Part, PartMut}
+use Rattle.promises.specs.Answered.{Same, OneResult}
 use Rattle.promises.proofs.Stable.{numbers, lists, tolds, steps, statistics}
 use Rattle.promises.proofs.Determined.{checked_one, determined}
 
@@ -72,57 +61,106 @@ refusal_some AlreadyOpened = omega arith
 refusal_some BadEnd = omega arith
 
 -- what an answer means is one to one
+abbrev answer_back : Outcome → Answer
+answer_back o = Ok (record { 0 = o.address })
+
+abbrev swept_back : Outcome → Swept
+swept_back o = Ok o.address
+
 pub outcome_one : (r r' : Answer) (c c' : List ℕ) → outcome r c ≡ outcome r' c' → (r ≡ r') × (c ≡ c')
-outcome_one (Granted a) (Granted x) c c' e = (ap (λ (o : Outcome). Granted (record { 0 = o.address })) e, ap (λ (o : Outcome). o.heap) e)
-outcome_one (Granted a) (Refused k) c c' e = absurd (omega (arith, refusal_some k, ap (λ (o : Outcome). o.refusal) e))
-outcome_one (Refused k) (Granted a) c c' e = absurd (omega (arith, refusal_some k, ap (λ (o : Outcome). o.refusal) e))
-outcome_one (Refused k) (Refused j) c c' e = (ap (λ (z : Refusal). Refused z) (refusal_one k j (ap (λ (o : Outcome). o.refusal) e)), ap (λ (o : Outcome). o.heap) e)
+outcome_one (Ok a) (Ok x) c c' e = (ap answer_back e, ap (λ (o : Outcome). o.heap) e)
+outcome_one (Ok a) (Err k) c c' e = absurd (omega (arith, refusal_some k, ap (λ (o : Outcome). o.refusal) e))
+outcome_one (Err k) (Ok a) c c' e = absurd (omega (arith, refusal_some k, ap (λ (o : Outcome). o.refusal) e))
+outcome_one (Err k) (Err j) c c' e = (ap (λ (z : Refusal). Err z) (refusal_one k j (ap (λ (o : Outcome). o.refusal) e)), ap (λ (o : Outcome). o.heap) e)
 
 pub swept_one : (r r' : Swept) (c c' : List ℕ) → swept_outcome r c ≡ swept_outcome r' c' → (r ≡ r') × (c ≡ c')
-swept_one (swept.Pages n) (swept.Pages m) c c' e = (ap (λ (o : Outcome). swept.Pages o.address) e, ap (λ (o : Outcome). o.heap) e)
-swept_one (swept.Pages n) (swept.Refused k) c c' e = absurd (omega (arith, refusal_some k, ap (λ (o : Outcome). o.refusal) e))
-swept_one (swept.Refused k) (swept.Pages n) c c' e = absurd (omega (arith, refusal_some k, ap (λ (o : Outcome). o.refusal) e))
-swept_one (swept.Refused k) (swept.Refused j) c c' e = (ap (λ (z : Refusal). swept.Refused z) (refusal_one k j (ap (λ (o : Outcome). o.refusal) e)), ap (λ (o : Outcome). o.heap) e)
+swept_one (Ok n) (Ok m) c c' e = (ap swept_back e, ap (λ (o : Outcome). o.heap) e)
+swept_one (Ok n) (Err k) c c' e = absurd (omega (arith, refusal_some k, ap (λ (o : Outcome). o.refusal) e))
+swept_one (Err k) (Ok n) c c' e = absurd (omega (arith, refusal_some k, ap (λ (o : Outcome). o.refusal) e))
+swept_one (Err k) (Err j) c c' e = (ap (λ (z : Refusal). Err z) (refusal_one k j (ap (λ (o : Outcome). o.refusal) e)), ap (λ (o : Outcome). o.heap) e)
 
--- a step by what it tells
+-- a block by what it tells
 kind_back : reading.Kind → Kind
 kind_back (a_free next previous) = Free (record { 0 = next }) (record { 0 = previous })
 kind_back a_variable = Variable
 kind_back (a_page c) = Page c
-kind_back the_end = End
+kind_back the_end = Variable
 
 kind_back_lem : (k : Kind) → kind_back (told_kind k) ≡ k
 unfolding kind_back
 kind_back_lem (Free next previous) = refl
 kind_back_lem Variable = refl
 kind_back_lem (Page c) = refl
-kind_back_lem End = refl
 
-abbrev step_back : Told reading.Step → Step
-step_back t =
-    record {
-      block = record { position = record { 0 = t.answer.position }; size = t.answer.size; kind = kind_back t.answer.kind };
-      walk = record { at = record { 0 = t.answer.next } };
-      refusal = t.refusal;
-    }
+abbrev met_back : reading.Step → Option MetBlock
+met_back t = Some (record { position = record { 0 = t.position }; size = t.size; kind = kind_back t.kind })
 
-step_back_lem : (r : Step) → step_back (told_step r) ≡ r
-step_back_lem r = ap (λ (k : Kind). record { block = record { position = r.block.position; size = r.block.size; kind = k }; walk = r.walk; refusal = r.refusal }) (kind_back_lem r.block.kind)
+met_back_lem : (w n : ℕ) (b : MetBlock) → met_back (told_next w (Some b) n) ≡ Some b
+met_back_lem w n b = ap (λ (k : Kind). Some (record { position = b.position; size = b.size; kind = k })) (kind_back_lem b.kind)
+
+-- no block tells the end
+is_end : reading.Kind → ℕ
+is_end (a_free next previous) = 0
+is_end a_variable = 0
+is_end (a_page c) = 0
+is_end the_end = 1
+
+no_end : (k : Kind) → the_end ≡ told_kind k → ⊥
+unfolding is_end
+no_end (Free next previous) e = omega (arith, ap is_end e)
+no_end Variable e = omega (arith, ap is_end e)
+no_end (Page c) e = omega (arith, ap is_end e)
+
+met_one : (w : ℕ) (m m' : Option MetBlock) (n n' : ℕ) → told_next w m n ≡ told_next w m' n' → m ≡ m'
+met_one w None None n n' e = refl
+met_one w None (Some b) n n' e = absurd (no_end b.kind (ap (λ (t : reading.Step). t.kind) e))
+met_one w (Some b) None n n' e = absurd (no_end b.kind (ap (λ (t : reading.Step). t.kind) (sym e)))
+met_one w (Some b) (Some d) n n' e = sym (met_back_lem w n b) ∙ ap met_back e ∙ met_back_lem w n' d
+
+next_lem : (w : ℕ) (m : Option MetBlock) (n : ℕ) → (told_next w m n).next ≡ n
+next_lem w None n = refl
+next_lem w (Some b) n = refl
+
+abbrev step_of : Option MetBlock → ℕ → Result Step Refusal
+step_of m n = Ok (record { block = m; walk = record { at = record { 0 = n } } })
+
+step_one : (w at : ℕ) (r r' : Result Step Refusal) → told_step w at r ≡ told_step w at r' → r ≡ r'
+step_one w at (Ok s) (Ok t) e =
+    let f : told_next w s.block s.walk.at.0 ≡ told_next w t.block t.walk.at.0 = ap (λ (x : Told reading.Step). x.answer) e in
+    ap₂ step_of (met_one w s.block t.block s.walk.at.0 t.walk.at.0 f) (sym (next_lem w s.block s.walk.at.0) ∙ ap (λ (x : reading.Step). x.next) f ∙ next_lem w t.block t.walk.at.0)
+step_one w at (Ok s) (Err k) e = absurd (omega (arith, refusal_some k, ap (λ (x : Told reading.Step). x.refusal) e))
+step_one w at (Err k) (Ok s) e = absurd (omega (arith, refusal_some k, ap (λ (x : Told reading.Step). x.refusal) e))
+step_one w at (Err k) (Err j) e = ap (λ (z : Refusal). Err z) (refusal_one k j (ap (λ (x : Told reading.Step). x.refusal) e))
 
 -- the statistics by what they tell
-abbrev counted_back : Told reading.Statistics → Counted
+abbrev counted_back : Told reading.Statistics → Result Statistics Refusal
 counted_back t =
+    Ok (
     record {
-      statistics = record {
-        free_bytes = t.answer.free_bytes;
-        free_blocks = t.answer.free_blocks;
-        largest_free = t.answer.largest_free;
-        variables = t.answer.variables;
-        pages = t.answer.pages;
-        items = t.answer.items;
-      };
-      refusal = t.refusal;
+      free_bytes = t.answer.free_bytes;
+      free_blocks = t.answer.free_blocks;
+      largest_free = t.answer.largest_free;
+      variables = t.answer.variables;
+      pages = t.answer.pages;
+      items = t.answer.items;
     }
+    )
+
+counted_one : (r r' : Result Statistics Refusal) → told_counted r ≡ told_counted r' → r ≡ r'
+counted_one (Ok s) (Ok t) e = ap counted_back e
+counted_one (Ok s) (Err k) e = absurd (omega (arith, refusal_some k, ap (λ (x : Told reading.Statistics). x.refusal) e))
+counted_one (Err k) (Ok s) e = absurd (omega (arith, refusal_some k, ap (λ (x : Told reading.Statistics). x.refusal) e))
+counted_one (Err k) (Err j) e = ap (λ (z : Refusal). Err z) (refusal_one k j (ap (λ (x : Told reading.Statistics). x.refusal) e))
+
+-- and the table
+abbrev table_back : Told (List (List ℕ)) → Result (List (List ℕ)) Refusal
+table_back t = Ok t.answer
+
+table_one : (w : ℕ) (r r' : Result (List (List ℕ)) Refusal) → told_table w r ≡ told_table w r' → r ≡ r'
+table_one w (Ok s) (Ok t) e = ap table_back e
+table_one w (Ok s) (Err k) e = absurd (omega (arith, refusal_some k, ap (λ (x : Told (List (List ℕ))). x.refusal) e))
+table_one w (Err k) (Ok s) e = absurd (omega (arith, refusal_some k, ap (λ (x : Told (List (List ℕ))). x.refusal) e))
+table_one w (Err k) (Err j) e = ap (λ (z : Refusal). Err z) (refusal_one k j (ap (λ (x : Told (List (List ℕ))). x.refusal) e))
 
 module _ (w : ℕ) where
   -- a heap is unfit for one reason, and fine for none
@@ -169,28 +207,34 @@ module _ (w : ℕ) where
   fine_fit b AlreadyOpened s u = u
   fine_fit b BadEnd s u = u
 
-  verdict_one : (b : List ℕ) (v v' : Verdict) → Examined w b v → Examined w b v' → v ≡ v'
+  verdict_one : (b : List ℕ) (v v' : Result (List ℕ) Refusal) → Examined w b v → Examined w b v' → v ≡ v'
   unfolding Examined
-  verdict_one b Fine Fine x y = refl
-  verdict_one b Fine (Unfit k) x y = absurd (fine_fit b k x y)
-  verdict_one b (Unfit k) Fine x y = absurd (fine_fit b k y x)
-  verdict_one b (Unfit k) (Unfit j) x y = ap (λ (z : Refusal). Unfit z) (unfit_one b k j x y)
+  verdict_one b (Ok t) (Ok u) x y = ap (λ (z : List ℕ). Ok z) (x.1 ∙ sym y.1)
+  verdict_one b (Ok t) (Err k) x y = absurd (fine_fit b k x.0 y)
+  verdict_one b (Err k) (Ok t) x y = absurd (fine_fit b k y.0 x)
+  verdict_one b (Err k) (Err j) x y = ap (λ (z : Refusal). Err z) (unfit_one b k j x y)
 
-  -- two parts of one heap with the same bytes begin at one place
-  part_one : (h : ℕ × ℕ) (b : List ℕ) (a : ℕ) (i j : ℕ × ℕ) (l m : List ℕ) → PartAt w h b a i l → PartAt w h b a j m → l ≡ m → i.1 ≡ j.1
-  part_one h b a i j l m p q e = go (ℕ_discrete (length l) 0)
-    where
-      long : length l ≡ length m
-      long = ap length e
-
-      go : Dec (length l ≡ 0) → i.1 ≡ j.1
-      go (yes z) = p.empty z ∙ sym (q.empty (sym long ∙ z))
-      go (no z) = p.place (omega (arith, z)) ∙ sym (q.place (omega (arith, z, long)))
-
+  -- two parts of one heap are one; and what lends a part refuses nothing
   parts_one : (h : ℕ × ℕ) (b : List ℕ) (a : ℕ) (i j : ℕ × ℕ) (l m : List ℕ) → PartAt w h b a i l → PartAt w h b a j m → (l ≡ m) × (i ≡ j)
-  parts_one h b a i j l m x y =
-      let e : l ≡ m = checked_one (shape w) b (lists numbers) _ _ l m x.bytes y.bytes in
-      (e, ap₂ (λ (k n : ℕ). (k, n)) (x.same ∙ sym y.same) (part_one h b a i j l m x y e))
+  parts_one h b a i j l m x y = (checked_one (shape w) b (lists numbers) _ _ l m x.bytes y.bytes, ap₂ (λ (k n : ℕ). (k, n)) (x.same ∙ sym y.same) (x.place ∙ sym y.place))
+
+  not_both : (h : ℕ × ℕ) (b : List ℕ) (a : ℕ) (i : ℕ × ℕ) (l : List ℕ) (k : Refusal) → PartAt w h b a i l → NoPart w b a k → ⊥
+  not_both h b a i l k x y = omega (arith, refusal_some k, checked_one (shape w) b numbers _ _ 0 (refusal_number k) x.granted y.refusal)
+
+  none_one : (b : List ℕ) (a : ℕ) (k j : Refusal) → NoPart w b a k → NoPart w b a j → k ≡ j
+  none_one b a k j x y = refusal_one k j (checked_one (shape w) b numbers _ _ (refusal_number k) (refusal_number j) x.refusal y.refusal)
+
+  look_up_one : (h : Bor (List ℕ)) (a : ℕ) (r r' : Result (Bor (List ℕ)) Refusal) → Part w h a r → Part w h a r' → Same (λ x y. (x.now ≡ y.now) × (x.ref_ptr ≡ y.ref_ptr)) r r'
+  look_up_one h a (Ok r) (Ok t) x y = parts_one h.ref_ptr h.now a r.ref_ptr t.ref_ptr r.now t.now x y
+  look_up_one h a (Ok r) (Err k) x y = not_both h.ref_ptr h.now a r.ref_ptr r.now k x y
+  look_up_one h a (Err k) (Ok r) x y = not_both h.ref_ptr h.now a r.ref_ptr r.now k y x
+  look_up_one h a (Err k) (Err j) x y = none_one h.now a k j x y
+
+  look_up_mut_one : (h : MutBor (List ℕ)) (a : ℕ) (r r' : Result (MutBor (List ℕ)) Refusal) → PartMut w h a r → PartMut w h a r' → Same (λ x y. (x.now ≡ y.now) × (x.ref_ptr ≡ y.ref_ptr)) r r'
+  look_up_mut_one h a (Ok r) (Ok t) x y = parts_one h.ref_ptr h.now a r.ref_ptr t.ref_ptr r.now t.now x y
+  look_up_mut_one h a (Ok r) (Err k) x y = not_both h.ref_ptr h.now a r.ref_ptr r.now k x y
+  look_up_mut_one h a (Err k) (Ok r) x y = not_both h.ref_ptr h.now a r.ref_ptr r.now k y x
+  look_up_mut_one h a (Err k) (Err j) x y = none_one h.now a k j x y
 
   pub one_result : OneResult w
   unfolding Comes
@@ -202,10 +246,10 @@ module _ (w : ℕ) where
         numbers = λ b q n n' c c' x y.
             let e : x.outcome ≡ y.outcome = determined (shape w) b q x.outcome y.outcome x.allowed y.allowed in
             (x.number ∙ ap number e ∙ sym y.number, x.heap ∙ ap (λ (o : Outcome). o.heap) e ∙ sym y.heap);
-        look_ups = λ h a r r' x y. parts_one h.ref_ptr h.now a r.ref_ptr r'.ref_ptr r.now r'.now x y;
-        look_ups_mut = λ h a r r' x y. parts_one h.ref_ptr h.now a r.ref_ptr r'.ref_ptr r.now r'.now x y;
+        look_ups = look_up_one;
+        look_ups_mut = look_up_mut_one;
         look_up_refusals = λ b a k k' x y. checked_one (shape w) b numbers _ _ k k' x y;
-        statistics = λ b r r' x y. ap counted_back (checked_one (shape w) b (tolds statistics) _ _ (told_counted r) (told_counted r') x y);
-        tables = λ b t t' x y. checked_one (shape w) b (lists (lists numbers)) _ _ t t' x y;
-        steps = λ b at r r' x y. sym (step_back_lem r) ∙ ap step_back (checked_one (shape w) b (tolds steps) _ _ (told_step r) (told_step r') x y) ∙ step_back_lem r';
+        statistics = λ b r r' x y. counted_one r r' (checked_one (shape w) b (tolds statistics) _ _ (told_counted r) (told_counted r') x y);
+        tables = λ b t t' x y. table_one w t t' (checked_one (shape w) b (tolds (lists (lists numbers))) _ _ (told_table w t) (told_table w t') x y);
+        steps = λ b at r r' x y. step_one w at r r' (checked_one (shape w) b (tolds steps) _ _ (told_step w at r) (told_step w at r') x y);
       }

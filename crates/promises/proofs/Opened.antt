@@ -1,11 +1,6 @@
 -- A heap that is opened is sound: it has the fresh layout, up to the end that was asked for.
-use Prim.Native.Nat.{ℕ, ◌≤◌, ◌%◌}
-use mathlib.Core.Path.{◌≡◌, sym, ap, subst, ◌∙◌}
-use mathlib.Core.List.{List}
-use native.Mathlib.Omega.{arith}
-use native.Mathlib.Decide.{ℕ_discrete, dec_le}
-use lib.ListN.{length, take, get_or}
-use lib.Seq.{length-take-le}
+use Rattle.std.proofs.Common.{ℕ, ◌≤◌, ◌%◌, ◌≡◌, sym, ap, subst, ◌∙◌, List, arith, length, take, get_or, length-take-le}
+use Rattle.std.proofs.Math.Decide.{ℕ_discrete, dec_le}
 use Rattle.words.specs.Width.{Width}
 use Rattle.words.specs.Word.{word_at, put, Bytes}
 use Rattle.words.proofs.WordLaws.{length_put, bytes_put, word_same}

@@ -1,10 +1,5 @@
 -- Parts of lists.
-use Prim.Native.Nat.{ℕ, zero, suc, ◌+◌, ◌≤◌, ◌<◌}
-use mathlib.Core.Path.{◌≡◌, refl, sym, ap, ◌∙◌}
-use mathlib.Core.List.{List, [], ◌∷◌}
-use native.Mathlib.Omega.{arith}
-use lib.ListN.{length, get_or, take, drop, length-drop}
-use lib.Seq.{ext_get_or, get_or-take, get_or-drop, length-take-le}
+use Rattle.std.proofs.Common.{ℕ, zero, suc, ◌+◌, ◌≤◌, ◌<◌, ◌≡◌, refl, sym, ap, ◌∙◌, List, [], ◌∷◌, arith, length, get_or, take, drop, length-drop, ext_get_or, get_or-take, get_or-drop, length-take-le}
 
 -- the beginning of a beginning
 pub take_take : (k m : ℕ) (l : List ℕ) → k ≤ m → take k (take m l) ≡ take k l

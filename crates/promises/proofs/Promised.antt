@@ -1,5 +1,5 @@
 -- Every demand, proved once over the word size: so of document 01's heap, and of the hand unit's.
-use Prim.Native.Nat.{ℕ}
+use Rattle.std.proofs.Common.{ℕ}
 use Rattle.words.specs.Width.{Width}
 use Rattle.model.specs.Shape.{shape, wide, hand}
 use Rattle.model.specs.Promises.{Promised}

@@ -1,11 +1,6 @@
 -- Resize alters no payload but its own, makes nothing else live, grants what holds n bytes, and keeps the common beginning.
-use Prim.Native.Nat.{ℕ, ◌≤◌, min}
-use mathlib.Core.Path.{◌≡◌, refl, sym, ap, subst, ◌∙◌}
-use mathlib.Core.List.{List}
-use mathlib.Core.Logic.{inl}
-use native.Mathlib.Omega.{arith}
-use native.Mathlib.Nat.{min-le_left, min-le_right}
-use lib.ListN.{length, take, drop}
+use Rattle.std.proofs.Common.{ℕ, ◌≤◌, min, ◌≡◌, refl, sym, ap, subst, ◌∙◌, List, inl, arith, length, take, drop}
+use Rattle.std.proofs.Math.Nat.{min-le_left, min-le_right}
 use Rattle.words.specs.Width.{Width}
 use Rattle.model.specs.Shape.{shape, end_of}
 use Rattle.model.specs.Layout.{Layout}

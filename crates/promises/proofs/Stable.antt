@@ -1,9 +1,7 @@
 -- Equality of what a call answers is stable: what cannot differ is equal. Soundness need not be decided for it.
-use Prim.Native.Nat.{ℕ}
-use mathlib.Core.Path.{◌≡◌, refl, sym, ap, ap₂, ◌∙◌}
-use mathlib.Core.List.{List, [], ◌∷◌, nil≢cons, head-eq_of_cons-eq, tail-eq_of_cons-eq}
-use lib.ListN.{get_or}
-use native.Mathlib.Decide.{ℕ_discrete}
+use Rattle.std.proofs.Common.{ℕ, ◌≡◌, refl, sym, ap, ap₂, ◌∙◌, List, [], ◌∷◌, get_or}
+use mathlib.Core.List.{nil≢cons, head-eq_of_cons-eq, tail-eq_of_cons-eq}
+use Rattle.std.proofs.Math.Decide.{ℕ_discrete}
 use Rattle.model.specs.Reading.{Kind, a_free, a_variable, a_page, the_end, Step, Statistics}
 use Rattle.model.specs.Calls.{Outcome, Told}
 

@@ -1,5 +1,5 @@
--- The demands of what the public calls themselves answer, of document 01's heap (w = 8) and of the hand unit's (w = 4): the enum that they answer, through the definition of what it means; the C numbers; the reading calls.
-use Rattle.std.specs.Prelude.{ℕ, ◌≤◌, ◌≡◌, ◌↔◌, List, length, get_or}
+-- The demands of what the public calls themselves answer, of document 01's heap (w = 8) and of the hand unit's (w = 4): the Result that they answer, through the definition of what it means; the C numbers; the reading calls.
+use Rattle.std.specs.Prelude.{ℕ, ◌≤◌, ◌≡◌, ◌↔◌, List, length, get_or, Result, Ok, Err}
 use Rattle.std.proofs.Math.Option.{none}
 use Rattle.std.specs.Borrow.{Bor, MutBor}
 use Rattle.model.specs.Shape.{shape, end_of, address_of, item_at}
@@ -11,21 +11,23 @@ use Rattle.model.specs.Walking.{column}
 use Rattle.model.specs.Calls.{Way, staying, moving, keeping, Lent, granted, Sweeps, Steps, Counts}
 use Rattle.model.specs.Promises.{Call, initialising, checking, allocating, freeing, resizing, resizing_by, sweeping, MayGrow, numbers_of, Comes, Waits, ForItem, AllocateKept, FreeKept, ResizeKept, SweepKept, SweepCounted, NoRoom, NotOpen, NoRoomFor}
 use Rattle.model.specs.declared.Address.{Address}
-use Rattle.serving.specs.declared.Answer.{Answer}
-use Rattle.serving.specs.declared.Answer.TheVariants.{Granted, Refused}
-use Rattle.examining.specs.declared.Refusal.{Refusal}
-use Rattle.examining.specs.declared.Refusal.TheVariants as why
-use Rattle.serving.specs.declared.recovery.Swept.{Swept}
-use Rattle.serving.specs.declared.recovery.Swept.TheVariants as swept
-use Rattle.examining.specs.declared.Verdict.{Verdict}
-use Rattle.serving.specs.declared.counting.Counted.{Counted}
+use Rattle.model.specs.declared.refusals.Refusal.{Refusal}
+use Rattle.model.specs.declared.refusals.Refusal.TheVariants as why
+use Rattle.reading.specs.declared.counting.Statistics.{Statistics}
 use Rattle.serving.specs.declared.walks.Step.{Step}
 use Rattle.examining.specs.Examined.{Examined}
-use Rattle.serving.specs.Answers.{outcome, swept_outcome}
-use Rattle.serving.specs.Counting.{told_counted, TableTold}
+use Rattle.serving.specs.Answers.{Answer, Swept, outcome, swept_outcome}
+use Rattle.serving.specs.Counting.{told_counted, told_table, TableTold}
 use Rattle.serving.specs.Walking.{told_step}
 use Rattle.serving.specs.Lookup.{Part, PartMut, PartTold, RefusalTold}
 use Rattle.numbering.specs.Numbers.{Numbered}
+
+-- two answers are the same: both grant, and what they grant is the same, or both are one refusal
+abbrev pub Same : {A : Type 0} → (A → A → Type 0) → Result A Refusal → Result A Refusal → Type 0
+Same P (Ok x) (Ok y) = P x y
+Same P (Ok x) (Err k) = ⊥
+Same P (Err k) (Ok x) = ⊥
+Same P (Err k) (Err j) = k ≡ j
 
 -- the calls that grant a record for n bytes: allocate, a resize in place, a move
 abbrev pub AsksFor : ℕ → Call → Type 0
@@ -52,72 +54,72 @@ module _ (w : ℕ) where
   pub record OneResult : Type 0 where
     pub answers : (b : List ℕ) (q : Call) (r r' : Answer) (c c' : List ℕ) → MayAnswer b q r c → MayAnswer b q r' c' → (r ≡ r') × (c ≡ c')
     pub sweeps : (b : List ℕ) (r r' : Swept) (c c' : List ℕ) → MaySweep b r c → MaySweep b r' c' → (r ≡ r') × (c ≡ c')
-    pub verdicts : (b : List ℕ) (v v' : Verdict) → Examined w b v → Examined w b v' → v ≡ v'
+    pub verdicts : (b : List ℕ) (v v' : Result (List ℕ) Refusal) → Examined w b v → Examined w b v' → v ≡ v'
     pub numbers : (b : List ℕ) (q : Call) (n n' : ℕ) (c c' : List ℕ) → Numbered (Comes (shape w) b q) n c → Numbered (Comes (shape w) b q) n' c' → (n ≡ n') × (c ≡ c')
-    pub look_ups : (h : Bor (List ℕ)) (a : ℕ) (r r' : Bor (List ℕ)) → Part w h a r → Part w h a r' → (r.now ≡ r'.now) × (r.ref_ptr ≡ r'.ref_ptr)
-    pub look_ups_mut : (h : MutBor (List ℕ)) (a : ℕ) (r r' : MutBor (List ℕ)) → PartMut w h a r → PartMut w h a r' → (r.now ≡ r'.now) × (r.ref_ptr ≡ r'.ref_ptr)
+    pub look_ups : (h : Bor (List ℕ)) (a : ℕ) (r r' : Result (Bor (List ℕ)) Refusal) → Part w h a r → Part w h a r' → Same (λ x y. (x.now ≡ y.now) × (x.ref_ptr ≡ y.ref_ptr)) r r'
+    pub look_ups_mut : (h : MutBor (List ℕ)) (a : ℕ) (r r' : Result (MutBor (List ℕ)) Refusal) → PartMut w h a r → PartMut w h a r' → Same (λ x y. (x.now ≡ y.now) × (x.ref_ptr ≡ y.ref_ptr)) r r'
     pub look_up_refusals : (b : List ℕ) (a k k' : ℕ) → RefusalTold w b a k → RefusalTold w b a k' → k ≡ k'
-    pub statistics : (b : List ℕ) (r r' : Counted) → Counts (shape w) b (told_counted r) → Counts (shape w) b (told_counted r') → r ≡ r'
-    pub tables : (b : List ℕ) (t t' : List (List ℕ)) → TableTold w b t → TableTold w b t' → t ≡ t'
-    pub steps : (b : List ℕ) (at : ℕ) (r r' : Step) → Steps (shape w) b at (told_step r) → Steps (shape w) b at (told_step r') → r ≡ r'
+    pub statistics : (b : List ℕ) (r r' : Result Statistics Refusal) → Counts (shape w) b (told_counted r) → Counts (shape w) b (told_counted r') → r ≡ r'
+    pub tables : (b : List ℕ) (t t' : Result (List (List ℕ)) Refusal) → TableTold w b t → TableTold w b t' → t ≡ t'
+    pub steps : (b : List ℕ) (at : ℕ) (r r' : Result Step Refusal) → Steps (shape w) b at (told_step w at r) → Steps (shape w) b at (told_step w at r') → r ≡ r'
 
   -- Demands 1 and 2 of what the calls answer
   pub record AnswersPromised : Type 0 where
     -- a refusal leaves every byte as it was, and a call gives none but its numbers
-    pub refused_untouched : (b : List ℕ) (q : Call) (k : Refusal) (c : List ℕ) → MayAnswer b q (Refused k) c → c ≡ b
+    pub refused_untouched : (b : List ℕ) (q : Call) (k : Refusal) (c : List ℕ) → MayAnswer b q (Err k) c → c ≡ b
     pub answers_only : (b : List ℕ) (q : Call) (r : Answer) (c : List ℕ) → MayAnswer b q r c → (outcome r c).refusal ∈ numbers_of q
     -- the check accepts exactly the sound heaps; no call makes a sound heap unsound; an opened heap is sound
-    pub accepts_exactly : (b : List ℕ) (r : Answer) (c : List ℕ) → MayAnswer b checking r c → ((a : Address) × (r ≡ Granted a)) ↔ (Lent (shape w) b × SoundIn (shape w) b)
+    pub accepts_exactly : (b : List ℕ) (r : Answer) (c : List ℕ) → MayAnswer b checking r c → ((a : Address) × (r ≡ Ok a)) ↔ (Lent (shape w) b × SoundIn (shape w) b)
     pub stays_sound : (b : List ℕ) (q : Call) (r : Answer) (c : List ℕ) → MayAnswer b q r c → SoundIn (shape w) b → SoundIn (shape w) c
-    pub opens_sound : (b : List ℕ) (e : ℕ) (a : Address) (c : List ℕ) → MayAnswer b (initialising e) (Granted a) c → SoundIn (shape w) c × (stored_end (shape w) c ≡ e)
+    pub opens_sound : (b : List ℕ) (e : ℕ) (a : Address) (c : List ℕ) → MayAnswer b (initialising e) (Ok a) c → SoundIn (shape w) c × (stored_end (shape w) c ≡ e)
     -- the end never falls; only a call that may grow the heap moves it; and no byte behind the end then is touched
     pub end_rises : (b : List ℕ) (q : Call) (r : Answer) (c : List ℕ) → MayAnswer b q r c → SoundIn (shape w) b → stored_end (shape w) b ≤ stored_end (shape w) c
     pub end_stays : (b : List ℕ) (q : Call) (r : Answer) (c : List ℕ) → MayAnswer b q r c → SoundIn (shape w) b → (MayGrow q → ⊥) → stored_end (shape w) c ≡ stored_end (shape w) b
     pub behind_untouched : (b : List ℕ) (q : Call) (r : Answer) (c : List ℕ) → MayAnswer b q r c → (i : ℕ) → stored_end (shape w) c ≤ i → get_or c i 0 ≡ get_or b i 0
     -- what a granted call keeps
-    pub allocate_keeps : (b : List ℕ) (n : ℕ) (a : Address) (c : List ℕ) (L L' : Layout) → Lent (shape w) b → HereIn (shape w) b L → MayAnswer b (allocating n) (Granted a) c → HereIn (shape w) c L'
+    pub allocate_keeps : (b : List ℕ) (n : ℕ) (a : Address) (c : List ℕ) (L L' : Layout) → Lent (shape w) b → HereIn (shape w) b L → MayAnswer b (allocating n) (Ok a) c → HereIn (shape w) c L'
         → AllocateKept (shape w) b n L (granted a.0 c) L'
-    pub free_keeps : (b : List ℕ) (a : ℕ) (x : Address) (c : List ℕ) (L L' : Layout) → Lent (shape w) b → HereIn (shape w) b L → MayAnswer b (freeing a) (Granted x) c → HereIn (shape w) c L'
+    pub free_keeps : (b : List ℕ) (a : ℕ) (x : Address) (c : List ℕ) (L L' : Layout) → Lent (shape w) b → HereIn (shape w) b L → MayAnswer b (freeing a) (Ok x) c → HereIn (shape w) c L'
         → FreeKept (shape w) b a L (granted x.0 c) L'
-    pub resize_keeps : (b : List ℕ) (a n : ℕ) (x : Address) (c : List ℕ) (L L' : Layout) → Lent (shape w) b → HereIn (shape w) b L → MayAnswer b (resizing a n) (Granted x) c → HereIn (shape w) c L'
+    pub resize_keeps : (b : List ℕ) (a n : ℕ) (x : Address) (c : List ℕ) (L L' : Layout) → Lent (shape w) b → HereIn (shape w) b L → MayAnswer b (resizing a n) (Ok x) c → HereIn (shape w) c L'
         → ResizeKept (shape w) b a n L (granted x.0 c) L'
-    pub each_way_keeps : (v : Way) (b : List ℕ) (a n : ℕ) (x : Address) (c : List ℕ) (L L' : Layout) → Lent (shape w) b → HereIn (shape w) b L → MayAnswer b (resizing_by v a n) (Granted x) c → HereIn (shape w) c L'
+    pub each_way_keeps : (v : Way) (b : List ℕ) (a n : ℕ) (x : Address) (c : List ℕ) (L L' : Layout) → Lent (shape w) b → HereIn (shape w) b L → MayAnswer b (resizing_by v a n) (Ok x) c → HereIn (shape w) c L'
         → ResizeKept (shape w) b a n L (granted x.0 c) L'
     -- an item that was granted for n bytes is looked up as n bytes
-    pub looked_up_lem : (n : ℕ) (q : Call) → AsksFor n q → (b : List ℕ) (a : Address) (c : List ℕ) (L : Layout) → Lent (shape w) b → HereIn (shape w) b L → MayAnswer b q (Granted a) c → ForItem (shape w) q n L
+    pub looked_up_lem : (n : ℕ) (q : Call) → AsksFor n q → (b : List ℕ) (a : Address) (c : List ℕ) (L : Layout) → Lent (shape w) b → HereIn (shape w) b L → MayAnswer b q (Ok a) c → ForItem (shape w) q n L
         → (r : List ℕ) → PartTold w c a.0 r → length r ≡ n
     -- a free item of a closed class is never handed out: every granted call but a sweep leaves it on its list, and none answers its address
-    pub closed_wait : (b : List ℕ) (q : Call) (a : Address) (c : List ℕ) (L L' : Layout) → Lent (shape w) b → HereIn (shape w) b L → MayAnswer b q (Granted a) c → HereIn (shape w) c L' → (q ≡ sweeping → ⊥)
+    pub closed_wait : (b : List ℕ) (q : Call) (a : Address) (c : List ℕ) (L L' : Layout) → Lent (shape w) b → HereIn (shape w) b L → MayAnswer b q (Ok a) c → HereIn (shape w) c L' → (q ≡ sweeping → ⊥)
         → (k o : ℕ) → (shape w).offered ≤ k → Waits k o L → Waits k o L' × (a.0 ≡ address_of (shape w) (item_at (shape w) o) → ⊥)
     -- in place gives the record's own address, a move never does
-    pub in_place_stays : (b : List ℕ) (a n : ℕ) (x : Address) (c : List ℕ) → MayAnswer b (resizing_by staying a n) (Granted x) c → x.0 ≡ a
-    pub move_moves : (b : List ℕ) (a n : ℕ) (x : Address) (c : List ℕ) → MayAnswer b (resizing_by moving a n) (Granted x) c → x.0 ≡ a → ⊥
+    pub in_place_stays : (b : List ℕ) (a n : ℕ) (x : Address) (c : List ℕ) → MayAnswer b (resizing_by staying a n) (Ok x) c → x.0 ≡ a
+    pub move_moves : (b : List ℕ) (a n : ℕ) (x : Address) (c : List ℕ) → MayAnswer b (resizing_by moving a n) (Ok x) c → x.0 ≡ a → ⊥
     -- 6 exactly where the rule finds nothing, from one way of resize where that way is not open; and 5 exactly where nothing is live
     pub no_room_exactly : (b : List ℕ) (n : ℕ) (r : Answer) (c : List ℕ) (L : Layout) → Lent (shape w) b → HereIn (shape w) b L → 1 ≤ n → n ≤ (shape w).most
-        → (MayAnswer b (allocating n) r c → (r ≡ Refused why.NoRoom) ↔ NoRoom (shape w) (end_of (length b)) n L)
-        × ((x : Payload) → x ∈ live (shape w) L → MayAnswer b (resizing x.address n) r c → (r ≡ Refused why.NoRoom) ↔ NoRoomFor (shape w) (end_of (length b)) x n L)
-        × ((v : Way) (x : Payload) → x ∈ live (shape w) L → MayAnswer b (resizing_by v x.address n) r c → (r ≡ Refused why.NoRoom) ↔ NotOpen (shape w) v (end_of (length b)) x n L)
+        → (MayAnswer b (allocating n) r c → (r ≡ Err why.NoRoom) ↔ NoRoom (shape w) (end_of (length b)) n L)
+        × ((x : Payload) → x ∈ live (shape w) L → MayAnswer b (resizing x.address n) r c → (r ≡ Err why.NoRoom) ↔ NoRoomFor (shape w) (end_of (length b)) x n L)
+        × ((v : Way) (x : Payload) → x ∈ live (shape w) L → MayAnswer b (resizing_by v x.address n) r c → (r ≡ Err why.NoRoom) ↔ NotOpen (shape w) v (end_of (length b)) x n L)
     pub not_live_exactly : (b : List ℕ) (a : ℕ) (r : Answer) (c : List ℕ) (L : Layout) → Lent (shape w) b → HereIn (shape w) b L
-        → MayAnswer b (freeing a) r c → (r ≡ Refused why.NotLive) ↔ ((x : Payload) → x ∈ live (shape w) L → x.address ≡ a → ⊥)
+        → MayAnswer b (freeing a) r c → (r ≡ Err why.NotLive) ↔ ((x : Payload) → x ∈ live (shape w) L → x.address ≡ a → ⊥)
     -- a size that the record x holds already is never refused: where x can neither stay nor move, its address is answered and no byte changes
     pub smaller_kept : (b : List ℕ) (n : ℕ) (r : Answer) (c : List ℕ) (L : Layout) → Lent (shape w) b → HereIn (shape w) b L → (x : Payload) → x ∈ live (shape w) L → 1 ≤ n → n ≤ x.size
         → MayAnswer b (resizing x.address n) r c
-        → ((a : Address) × (r ≡ Granted a)) × (stays (shape w) n (find (shape w) x.address L) L ≡ none → NoRoom (shape w) (end_of (length b)) n L → (r ≡ Granted (record { 0 = x.address })) × (c ≡ b))
+        → ((a : Address) × (r ≡ Ok a)) × (stays (shape w) n (find (shape w) x.address L) L ≡ none → NoRoom (shape w) (end_of (length b)) n L → (r ≡ Ok (record { 0 = x.address })) × (c ≡ b))
     -- the table's columns add up to the statistics of the same heap
-    pub columns_add : (b : List ℕ) (r : Counted) (t : List (List ℕ)) → Counts (shape w) b (told_counted r) → TableTold w b t
-        → (column 0 t ≡ r.statistics.pages) × (column 1 t ≡ r.statistics.items)
+    pub columns_add : (b : List ℕ) (r : Result Statistics Refusal) (t : Result (List (List ℕ)) Refusal) → Counts (shape w) b (told_counted r) → TableTold w b t
+        → (column 0 (told_table w t).answer ≡ (told_counted r).answer.pages) × (column 1 (told_table w t).answer ≡ (told_counted r).answer.items)
 
   -- Demands 1 and 2 of what a sweep answers
   pub record SweepPromised : Type 0 where
     -- a refusal leaves every byte as it was, and there are no others than 1, 2 and 3; a sound heap stays sound
-    pub refused_untouched : (b : List ℕ) (k : Refusal) (c : List ℕ) → MaySweep b (swept.Refused k) c → c ≡ b
+    pub refused_untouched : (b : List ℕ) (k : Refusal) (c : List ℕ) → MaySweep b (Err k) c → c ≡ b
     pub answers_only : (b : List ℕ) (r : Swept) (c : List ℕ) → MaySweep b r c → (swept_outcome r c).refusal ∈ numbers_of sweeping
     pub stays_sound : (b : List ℕ) (r : Swept) (c : List ℕ) → MaySweep b r c → SoundIn (shape w) b → SoundIn (shape w) c
     -- what it keeps, and what it counts
-    pub keeps : (b : List ℕ) (n : ℕ) (c : List ℕ) (L L' : Layout) → Lent (shape w) b → HereIn (shape w) b L → MaySweep b (swept.Pages n) c → HereIn (shape w) c L'
+    pub keeps : (b : List ℕ) (n : ℕ) (c : List ℕ) (L L' : Layout) → Lent (shape w) b → HereIn (shape w) b L → MaySweep b (Ok n) c → HereIn (shape w) c L'
         → SweepKept (shape w) b L (granted n c) L' × SweepCounted (shape w) L (granted n c) L'
     -- a second one straight after answers 0 and changes no byte
-    pub stays : (b : List ℕ) (n : ℕ) (c : List ℕ) (r : Swept) (d : List ℕ) → MaySweep b (swept.Pages n) c → MaySweep c r d → (r ≡ swept.Pages 0) × (d ≡ c)
+    pub stays : (b : List ℕ) (n : ℕ) (c : List ℕ) (r : Swept) (d : List ℕ) → MaySweep b (Ok n) c → MaySweep c r d → (r ≡ Ok 0) × (d ≡ c)
 
   -- THE PROMISES of what the calls answer
   pub record CallsPromised : Type 0 where

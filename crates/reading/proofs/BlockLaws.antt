@@ -1,9 +1,5 @@
 -- What is read of the block at which a walk stands, and that the walk goes on behind it.
-use Prim.Native.Nat.{ℕ, ◌+◌, ◌≤◌, ◌<◌}
-use mathlib.Core.Path.{◌≡◌, refl, ap, subst, ◌∙◌}
-use mathlib.Core.List.{List}
-use native.Mathlib.Omega.{arith}
-use lib.ListN.{length}
+use Rattle.std.proofs.Common.{ℕ, ◌+◌, ◌≤◌, ◌<◌, ◌≡◌, refl, ap, subst, ◌∙◌, List, arith, length}
 use Rattle.words.specs.Word.{word_at}
 use Rattle.model.specs.Shape.{shape, least_free, end_of, start}
 use Rattle.model.specs.Parts.{free_kind, variable_kind, size_in, kind_in, class_in, next_at, previous_at, first_item_at}
@@ -17,7 +13,7 @@ use Rattle.model.proofs.walks.Passing.{stands, passed_allowed, gone_on}
 use Rattle.model.proofs.walks.Steps.{step_past}
 use Rattle.reading.specs.Stepping.{Toward, Towards, WalkAt, PageOf, BlockRead}
 use Rattle.reading.specs.declared.stepping.Kind.TheVariants.{Free, Variable, Page}
-use Rattle.reading.proofs.ReadingLaws.{going_inside, page_class, page_there, there_at}
+use Rattle.reading.proofs.ReadingLaws.{going_inside, page_class, page_flag, page_there, there_at}
 use Rattle.reading.proofs.SteppingLaws.{met_free, met_variable, met_page}
 
 module _ {w : ℕ} {b : List ℕ} {at : ℕ} (g : WalkAt w b at) where
@@ -57,6 +53,8 @@ module _ {w : ℕ} {b : List ℕ} {at : ℕ} (g : WalkAt w b at) where
         record {
           answer = λ L h. met_free walk_here t e l s es L h z n m en em;
           place = refl;
+          sized = rw e at es;
+          kind_is = rw e at z;
           least = walk_inside.0;
           inside = walk_inside.1;
           next = walk_on;
@@ -68,6 +66,8 @@ module _ {w : ℕ} {b : List ℕ} {at : ℕ} (g : WalkAt w b at) where
         record {
           answer = λ L h. met_variable walk_here t e l s es L h z;
           place = refl;
+          sized = rw e at es;
+          kind_is = rw e at z;
           least = walk_inside.0;
           inside = walk_inside.1;
           next = walk_on;
@@ -89,6 +89,8 @@ module _ {w : ℕ} {b : List ℕ} {at : ℕ} (g : WalkAt w b at) where
           record {
             answer = λ L h. met_page walk_here t e l s es L h z y f d ef ed;
             place = refl;
+            sized = rw e at es;
+            kind_is = rw e at (page_flag (λ (l : List Block). tt) g t e l z y);
             least = walk_inside.0;
             inside = walk_inside.1;
             next = walk_on;

@@ -1,5 +1,6 @@
 pub mod ReadingLaws
-mod CountLaws
+pub mod CountLaws
 pub mod TableLaws
 mod SteppingLaws
 pub mod BlockLaws
+pub mod IterLaws

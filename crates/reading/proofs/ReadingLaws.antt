@@ -1,9 +1,5 @@
 -- What a walk that counts shows at each block.
-use Prim.Native.Nat.{ℕ, suc, ◌+◌, ◌-◌, ◌*◌, ◌≤◌, ◌<◌}
-use mathlib.Core.Path.{◌≡◌, refl, sym, ap, ap₂, ◌∙◌}
-use mathlib.Core.List.{List, [], ◌∷◌, ◌++◌}
-use native.Mathlib.Omega.{arith}
-use lib.ListN.{length, get_or}
+use Rattle.std.proofs.Common.{ℕ, suc, ◌+◌, ◌-◌, ◌*◌, ◌≤◌, ◌<◌, ◌≡◌, refl, sym, ap, ap₂, ◌∙◌, List, [], ◌∷◌, ◌++◌, arith, length, get_or}
 use Rattle.words.specs.Width.{Width}
 use Rattle.words.specs.Word.{word_at}
 use Rattle.model.specs.Shape.{shape, least_free, item_size, page_need, end_of, start}
@@ -18,7 +14,7 @@ use Rattle.model.proofs.items.Aligned.{next_even, class_read, laid}
 use Rattle.model.proofs.walks.Passing.{stands, passed_allowed, gone_start, gone_on, gone_done}
 use Rattle.model.specs.inner.Walks.{Standing, Gone}
 use Rattle.model.specs.inner.Laid.{Laid}
-use Rattle.model.proofs.Sizes.{one_less, per_page_bound}
+use Rattle.model.proofs.Sizes.{per_page_bound}
 use Rattle.model.proofs.walks.Totals.{held_few}
 use Rattle.reading.specs.declared.counting.Page.{Page}
 use Rattle.reading.specs.Counting.{held_from, PageAt, AtPage, PageTold, Going}
@@ -39,36 +35,31 @@ pub record Held (w : ℕ) (b : List ℕ) (c first n size q left held : ℕ) : Ty
   pub room : q + left * item_size (shape w) c ≤ length b
   pub rest : held + held_from w b c q left ≡ held_from w b c first n
 
-pub held_start : {w : ℕ} → Width w → (b : List ℕ) (c first n size : ℕ) → n ≡ (shape w).per_page c → first + n * item_size (shape w) c ≤ length b → size ≡ item_size (shape w) c → Held w b c first n size first n 0
-held_start wd b c first n size m r e = record { width = wd; item_size_is = e; small = omega arith; many = m; room = r; rest = omega arith }
-
-held_turn : (w : ℕ) (b : List ℕ) (c q left : ℕ) → (left ≡ 0 → ⊥) → held_from w b c q left ≡ used_in (word_at w b q) + held_from w b c (q + item_size (shape w) c) (left - 1)
-unfolding held_from
-held_turn w b c q left l = go (left - 1) (omega arith) refl
-  where
-    go : (k : ℕ) → left ≡ suc k → left - 1 ≡ k → held_from w b c q left ≡ used_in (word_at w b q) + held_from w b c (q + item_size (shape w) c) (left - 1)
-    go k e f = rw (f, e)
+pub held_start : {w : ℕ} → Width w → (b : List ℕ) (c first n size left : ℕ) → left ≡ n → n ≡ (shape w).per_page c → first + n * item_size (shape w) c ≤ length b → size ≡ item_size (shape w) c → Held w b c first n size first left 0
+held_start wd b c first n size left l m r e = rw l record { width = wd; item_size_is = e; small = omega arith; many = m; room = r; rest = omega arith }
 
 module _ {w : ℕ} {b : List ℕ} {c first n size q left held : ℕ} (i : Held w b c first n size q left held) where
-  pub held_inside : (left ≡ 0 → ⊥) → q + w ≤ length b
-  held_inside l = omega (arith, i.room, one_less left (item_size (shape w) c) l)
+  -- an item is left, and k behind it
+  module _ (k : ℕ) (l : left ≡ suc k) where
+    pub held_inside : (q + w ≤ length b) × (q + size ≤ length b)
+    held_inside = let z : q + suc k * item_size (shape w) c ≤ length b = rw l at i.room in (omega (arith, z), omega (arith, z, i.item_size_is))
 
-  pub held_next : (left ≡ 0 → ⊥) → q + size ≤ length b
-  held_next l = omega (arith, i.room, i.item_size_is, one_less left (item_size (shape w) c) l)
-
-  -- x is the item's header, and y 1 where it says that it is in use, as code works them out
-  pub held_again : (left ≡ 0 → ⊥) → (x y : ℕ) → x ≡ word_at w b q → y ≡ used_in x → Held w b c first n size (q + size) (left - 1) (held + y)
-  held_again l x y e f =
-      let z : y ≡ used_in (word_at w b q) = f ∙ ap used_in e in
-      rw i.item_size_is
-      record {
-        width = i.width;
-        item_size_is = refl;
-        small = omega (arith, i.small, z);
-        many = i.many;
-        room = omega (arith, i.room, one_less left (item_size (shape w) c) l);
-        rest = omega (arith, i.rest, held_turn w b c q left l);
-      }
+    -- x is the item's header, and y 1 where it says that it is in use, as code works them out
+    pub held_again : (x y : ℕ) → x ≡ word_at w b q → y ≡ used_in x → Held w b c first n size (q + size) k (held + y)
+    unfolding held_from
+    held_again x y e f =
+        let z : y ≡ used_in (word_at w b q) = f ∙ ap used_in e in
+        let m : q + suc k * item_size (shape w) c ≤ length b = rw l at i.room in
+        let r : held + held_from w b c q (suc k) ≡ held_from w b c first n = rw l at i.rest in
+        rw i.item_size_is
+        record {
+          width = i.width;
+          item_size_is = refl;
+          small = omega (arith, i.small, z, l);
+          many = i.many;
+          room = omega (arith, m);
+          rest = omega (arith, r, z);
+        }
 
   pub held_bound : held + left ≤ 4097
   held_bound = omega (arith, i.small, i.many, per_page_bound i.width c)

@@ -1,12 +1,6 @@
 -- What each way through a step of a walk shows.
-use Prim.Native.Nat.{ℕ, ◌+◌, ◌≤◌, ◌<◌}
-use mathlib.Core.Path.{◌≡◌, refl, sym, ap, ap₂, subst, ◌∙◌}
-use mathlib.Core.List.{List, [], ◌∷◌, ◌++◌}
-use mathlib.Core.Bool.{false}
-use native.Mathlib.Omega.{arith}
-use lib.Dec.{eqb}
-use borrow.Author.Tests.{eqb-true, eqb-false}
-use lib.ListN.{length}
+use Rattle.std.proofs.Common.{ℕ, ◌+◌, ◌≤◌, ◌<◌, ◌≡◌, refl, sym, ap, ap₂, subst, ◌∙◌, List, [], ◌∷◌, ◌++◌, false, arith, eqb, eqb-true, length}
+use borrow.Author.Tests.{eqb-false}
 use Rattle.words.proofs.YesNo.{yes_no}
 use Rattle.words.specs.Width.{Width}
 use Rattle.words.specs.Word.{word_at}

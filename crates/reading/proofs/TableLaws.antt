@@ -1,13 +1,6 @@
 -- What the table's walk shows at each block.
-use Prim.Native.Nat.{ℕ, zero, suc, ◌+◌, ◌-◌, ◌≤◌, ◌<◌}
-use mathlib.Core.Path.{◌≡◌, refl, sym, ap, ap₂, ◌∙◌}
-use mathlib.Core.List.{List, [], ◌∷◌, ◌++◌}
-use native.Mathlib.Omega.{arith}
-use native.Mathlib.Decide.{ℕ_discrete}
-use mathlib.Core.Bool.{cond}
-use lib.Dec.{eqb}
-use borrow.Author.Tests.{ne_eqb}
-use lib.ListN.{length, get_or, set, replicate}
+use Rattle.std.proofs.Common.{ℕ, zero, suc, ◌+◌, ◌-◌, ◌^◌, ◌≤◌, ◌<◌, ◌≡◌, refl, sym, ap, ap₂, subst, ◌∙◌, List, [], ◌∷◌, ◌++◌, arith, cond, eqb, ne_eqb, length, get_or, set, replicate}
+use Rattle.std.proofs.Math.Decide.{ℕ_discrete}
 use Rattle.words.specs.Width.{Width}
 use Rattle.words.specs.Word.{word_at}
 use Rattle.model.specs.Shape.{shape, end_of}
@@ -17,8 +10,14 @@ use Rattle.model.specs.Sound.{Allowed, AllowedUse, AllAllowed}
 use Rattle.model.specs.Reading.{total, held_in, of_block, of_page, row, rows_from, table}
 use Rattle.model.proofs.walks.Totals.{row_below, rows_free, rows_variable, rows_page, row_page, rows_get}
 use Rattle.reading.specs.declared.counting.Page.{Page}
-use Rattle.reading.specs.Counting.{table_rows, PageAt, PageTold, Going, row_and}
-use Rattle.reading.proofs.ReadingLaws.{page_flag, going_some, going_free, going_variable, going_page}
+use Rattle.reading.specs.Counting.{table_rows, PageAt, PageTold, RowRoom, Going, row_and}
+use Rattle.reading.specs.Stepping.{KindTold, BlockRead}
+use Rattle.reading.specs.declared.stepping.Kind.{Kind}
+use Rattle.reading.specs.declared.stepping.Kind.TheVariants as kinds
+use Rattle.reading.specs.declared.stepping.MetBlock.{MetBlock}
+use Rattle.reading.specs.Blocks.{Turned}
+use Rattle.reading.proofs.IterLaws.{read_below, read_page_at, turn_read, turn_on, turn_at, turn_going}
+use Rattle.reading.proofs.ReadingLaws.{page_flag, page_small, going_some, going_free, going_variable, going_page}
 
 row_of : {w : ℕ} → Width w → (rows : List (List ℕ)) (pre : List Block) (c : ℕ) → rows ≡ rows_from table_rows 0 pre → c < table_rows → get_or rows c [] ≡ row c pre
 row_of wd rows pre c e l = ap (λ (x : List (List ℕ)). get_or x c []) e ∙ rows_get wd table_rows 0 c pre l ∙ ap (λ (x : ℕ). row x pre) (omega arith)
@@ -83,3 +82,30 @@ module _ {w : ℕ} {b : List ℕ} {p : ℕ} {rows : List (List ℕ)} (g : Going 
             ap₂ (λ (x : List (List ℕ)) (y : List ℕ). set x r.class y) s new
             ∙ ap (λ (x : ℕ). set (rows_from table_rows 0 pre) x (row c (pre ++ (used (page c k ss) ∷ [])))) q.class
             ∙ sym (rows_page g.width pre c k ss table_rows 0 c (omega arith) (omega (arith, a.few, g.width)))
+
+-- the loop's turn at the block r: a page's row grows, and has room; any other block leaves the rows
+module _ {w : ℕ} {b h h' : List ℕ} {p p' : ℕ} {rows : List (List ℕ)} {r : MetBlock} (i : (h ≡ b) × Going w (rows_from table_rows 0) b p rows) (n : Turned w h p r h' p') where
+  k : BlockRead w b r.position.0 r
+  k = turn_read i.0 n
+
+  g : Going w (rows_from table_rows 0) b r.position.0 rows
+  g = turn_going i.0 n i.1
+
+  module _ (c : ℕ) (z : r.kind ≡ kinds.Page c) (q : Page) (d : (c k : ℕ) (ss : List Slot) → PageAt w b r.position.0 c k ss → PageTold q c ss) where
+    pub tabled_room : length b < 2 ^ 63 → (q.class < table_rows) × RowRoom (get_or rows q.class []) q.held q.idle
+    tabled_room m =
+        let small : (q.class < table_rows) × (q.held ≤ 4097) × (q.idle ≤ 4097) = omega (arith, page_small (read_page_at k c z) q d, g.width) in
+        omega (arith, small, table_small g q.class small.0, k.inside, g.width, m)
+
+    pub tabled_on : (u : List ℕ) → u ≡ row_and (get_or rows q.class []) q.held q.idle → (h' ≡ b) × Going w (rows_from table_rows 0) b p' (set rows q.class u)
+    tabled_on u e =
+        let y : kind_in (word_at w b r.position.0) ≡ page_kind = rw z at k.kind_is in
+        (turn_on i.0 n, subst (λ (x : ℕ). Going w (rows_from table_rows 0) b x (set rows q.class u)) (turn_at i.0 n) (table_page g _ refl (read_below k) y r.size k.sized q d u e))
+
+  pub tabled_off : ((c : ℕ) → r.kind ≡ kinds.Page c → ⊥) → (h' ≡ b) × Going w (rows_from table_rows 0) b p' rows
+  tabled_off z = (turn_on i.0 n, subst (λ (x : ℕ). Going w (rows_from table_rows 0) b x rows) (turn_at i.0 n) (table_plain g _ refl (read_below k) (λ e. go r.kind refl (rw e at k.kind_is)) r.size k.sized))
+    where
+      go : (x : Kind) → r.kind ≡ x → KindTold page_kind x → ⊥
+      go (kinds.Free n m) e y = omega (arith, y)
+      go kinds.Variable e y = omega (arith, y)
+      go (kinds.Page c) e y = z c e

@@ -1,24 +1,21 @@
 // A step of a walk: what block begins at a position, known by a walk from the data area's start.
-ghost use Rattle.std.specs.Prelude.{◌≡◌, ℕ, ◌<◌, length};
-ghost use Rattle.words.specs.Width.{Width};
-ghost use Rattle.model.specs.Shape.{shape, end_of};
-ghost use Rattle.model.specs.Sound.{Sound};
-ghost use Rattle.reading.specs.Stepping.{StartTold, WalkAt, BlockRead, Meets, told_block};
-ghost use Rattle.model.specs.Reading.{ended};
+ghost use Rattle.std.specs.Prelude.{◌<◌, length};
+ghost use Rattle.model.specs.Shape.{end_of};
+ghost use Rattle.reading.specs.Stepping.{StartTold, WalkAt, BlockRead, Meets};
 
+use crate::heap::SoundHeap;
 use model::{
     FREE, Position, VARIABLE, class_in, end_of, first_item_at, kind_in, next_at, previous_at,
     size_in, start,
 };
-use words::word;
+use words::Width;
 
-// What a block is: free, with its next and its previous free block; variable; a page, with its class; or there is none.
+// What a block is: free, with its next and its previous free block; variable; or a page, with its class.
 #[derive(Clone, Copy)]
 pub enum Kind {
     Free { next: Position, previous: Position },
     Variable,
     Page { class: usize },
-    End,
 }
 
 // A walk's answer: where the block stands, its whole size, and what it is.
@@ -29,75 +26,55 @@ pub struct MetBlock {
     pub kind: Kind,
 }
 
-// Whether a block begins at `at`.
-fn starts(w: usize, h: &[u8], at: Position) -> bool
-    requires { Width w × Sound (shape w) h.now }
-    ensures { StartTold w h.now at.0 result }
-{
-    if end_of(h.len()).0 <= at.0 {
-        return false;
-    }
-    let mut p = start(w);
-    while p.0 < at.0 {
-        let t = word(w, h, p.0);
-        p = Position(p.0 + size_in(t));
-    }
-    p.0 == at.0
-}
-
-// No block: position and size are 0.
-pub fn no_block() -> MetBlock
-    ensures { (result.size ≡ 0) × ((w at : ℕ) → told_block at result ≡ ended (shape w) at) }
-{
-    MetBlock {
-        position: Position(0),
-        size: 0,
-        kind: Kind::End,
-    }
-}
-
 // The block at which a walk stands. The walk stands behind it next, so that a loop over all blocks is one walk.
-pub fn block_at(w: usize, h: &[u8], at: Position) -> MetBlock
-    requires { WalkAt w h.now at.0 × (at.0 < end_of (length h.now)) }
-    ensures { BlockRead w h.now at.0 result }
+pub fn block_at<W: Width>(h: &[u8], at: Position) -> MetBlock
+    requires { WalkAt W.BYTES h.now at.0 × (at.0 < end_of (length h.now)) }
+    ensures { BlockRead W.BYTES h.now at.0 result }
 {
-    let t = word(w, h, at.0);
+    let t = W::word(h, at.0);
     let size = size_in(t);
-    let kind = kind_in(t);
-    if kind == FREE {
-        let next = word(w, h, next_at(w, at).0);
-        let previous = word(w, h, previous_at(w, at, size).0);
-        return MetBlock {
-            position: at,
-            size: size,
-            kind: Kind::Free {
-                next: Position(next),
-                previous: Position(previous),
-            },
-        };
-    }
-    if kind == VARIABLE {
-        return MetBlock {
-            position: at,
-            size: size,
-            kind: Kind::Variable,
-        };
-    }
-    let class = class_in(w, word(w, h, first_item_at(w, at).0));
+    let kind = match kind_in(t) {
+        FREE => {
+            let next = Position(W::word(h, next_at::<W>(at).0));
+            let previous = Position(W::word(h, previous_at::<W>(at, size).0));
+            Kind::Free { next, previous }
+        }
+        VARIABLE => Kind::Variable,
+        _ => Kind::Page {
+            class: class_in::<W>(W::word(h, first_item_at::<W>(at).0)),
+        },
+    };
     MetBlock {
         position: at,
-        size: size,
-        kind: Kind::Page { class: class },
+        size,
+        kind,
     }
 }
 
-// The block that begins at `at`, or none.
-pub fn meet(w: usize, h: &[u8], at: Position) -> MetBlock
-    requires { Width w × Sound (shape w) h.now }
-    ensures { Meets w h.now at.0 result }
-{
-    if !starts(w, h, at) {
-        return no_block();
+impl<'a, W: Width> SoundHeap<'a, W> {
+    // Whether a block begins at `at`. No loop over `blocks`: a walk by steps is quadratic, so this reads tags alone and stops at `at`.
+    fn starts(&self, at: Position) -> bool
+        ensures { StartTold W.BYTES self.now at.0 result }
+    {
+        if end_of(self.bytes.len()).0 <= at.0 {
+            return false;
+        }
+        let mut p = start::<W>();
+        while p.0 < at.0 {
+            let t = W::word(self.bytes, p.0);
+            p = Position(p.0 + size_in(t));
+        }
+        p.0 == at.0
     }
-    block_at(w, h, at)
+
+    // The block that begins at `at`, or none.
+    pub fn meet(&self, at: Position) -> Option<MetBlock>
+        ensures { Meets W.BYTES self.now at.0 result }
+    {
+        if self.starts(at) {
+            Some(block_at::<W>(self.bytes, at))
+        } else {
+            None
+        }
+    }
 }

@@ -1,21 +1,15 @@
 -- A call on the first bytes of a buffer: its line, and the whole buffer then. Of document 01's heap, words of 8 bytes.
-use Prim.Native.Nat.{ℕ, ◌-◌, ◌≤◌, ◌<◌}
-use mathlib.Core.Path.{◌≡◌, refl, ap, subst}
-use mathlib.Core.Bool.{Bool, true, false, cond}
-use mathlib.Core.List.{List, [], ◌∷◌, ◌++◌}
-use native.Mathlib.Omega.{arith}
-use lib.ListN.{length, take, drop}
-use borrow.Author.Tests.{lt-ltb, le-ltb, ltb-false}
-use lib.Dec.{ltb}
+use Rattle.std.proofs.Common.{ℕ, ◌-◌, ◌≤◌, ◌<◌, ◌≡◌, refl, ap, subst, Bool, true, false, cond, List, [], ◌∷◌, ◌++◌, arith, length, take, drop, lt-ltb, le-ltb, ltb-false, ltb, Result, Ok, Err}
 use Rattle.words.specs.Word.{word_at}
 use Rattle.model.specs.Shape.{wide, end_of}
+use Rattle.model.specs.Reading.{counted, total, greatest}
 use Rattle.model.specs.Calls.{Outcome, Initialises, Counts}
-use Rattle.examining.specs.declared.Refusal.TheVariants.{BadLength}
-use Rattle.serving.specs.declared.Answer.{Answer}
-use Rattle.serving.specs.declared.Answer.TheVariants.{Granted, Refused}
-use Rattle.serving.specs.Answers.{outcome}
+use Rattle.model.specs.declared.refusals.Refusal.{Refusal}
+use Rattle.model.specs.declared.refusals.Refusal.TheVariants.{BadLength}
+use Rattle.model.specs.Refused.{refusal_number}
+use Rattle.serving.specs.Answers.{Answer, outcome}
 use Rattle.serving.specs.Counting.{told_counted}
-use Rattle.serving.specs.declared.counting.Counted as serving-counted
+use Rattle.reading.specs.declared.counting.Statistics.{Statistics}
 use Rattle.records.specs.declared.Line.{Line}
 use Rattle.records.specs.declared.Played.{Played}
 use Rattle.records.specs.Lines.{line_of, Called, OpensIn, AllocatesIn, ResizesIn, FreesIn, CountsIn, no_line, clip, CallPlayed, Plays}
@@ -28,12 +22,12 @@ called allows b n r l ys a e =
     rw z (go r e h)
   where
     go : (r : Answer) → l ≡ line_of r → allows (take n b) (outcome r ys) → Called (allows (take n b)) b n l (ys ++ drop n b)
-    go (Granted x) e h = record { outcome = outcome (Granted x) ys; allowed = h; refusal = ap (λ (y : Line). y.refusal) e; numbers = ap (λ (y : Line). y.numbers) e; bytes = refl }
-    go (Refused k) e h = record { outcome = outcome (Refused k) ys; allowed = h; refusal = ap (λ (y : Line). y.refusal) e; numbers = ap (λ (y : Line). y.numbers) e; bytes = refl }
+    go (Ok x) e h = record { outcome = outcome (Ok x) ys; allowed = h; refusal = ap (λ (y : Line). y.refusal) e; numbers = ap (λ (y : Line). y.numbers) e; bytes = refl }
+    go (Err k) e h = record { outcome = outcome (Err k) ys; allowed = h; refusal = ap (λ (y : Line). y.refusal) e; numbers = ap (λ (y : Line). y.numbers) e; bytes = refl }
 
 -- opening, by cases
 module _ (b : List ℕ) (lent n : ℕ) where
-  pub opens_beyond : length b < n → (l : Line) → l ≡ line_of (Refused BadLength) → OpensIn b lent n (record { line = l; lent = lent }) b
+  pub opens_beyond : length b < n → (l : Line) → l ≡ line_of (Err BadLength) → OpensIn b lent n (record { line = l; lent = lent }) b
   opens_beyond h l e =
       record {
         beyond = λ _. (ap (λ (x : Line). record { line = x; lent = lent }) e, refl);
@@ -51,13 +45,21 @@ module _ (b : List ℕ) (lent n : ℕ) where
     opens_refused z =
         record { beyond = λ k. absurd (omega arith); within = λ _. called (λ d o. Initialises wide d (end_of n) o) b n r l ys (subst (λ (x : ℕ). Initialises wide (take (n - 0) b) x (outcome r ys)) f a) e; granted = λ _ k. absurd (z k); refused = λ _ _. refl }
 
--- the statistics, told as a line
-pub counts_line : (b : List ℕ) (n : ℕ) (r : serving-counted.Counted) → Counts wide (take (n - 0) b) (told_counted r)
-    → CountsIn b n (record { refusal = r.refusal; numbers = r.statistics.free_bytes ∷ r.statistics.free_blocks ∷ r.statistics.largest_free ∷ r.statistics.variables ∷ r.statistics.pages ∷ r.statistics.items ∷ [] })
-counts_line b n r a =
-    let z : n - 0 ≡ n = omega arith in
-    let h : Counts wide (take n b) (told_counted r) = rw z at a in
-    record { answer = told_counted r; counts = h; refusal = refl; numbers = refl }
+-- the statistics, told as a line, and why there are none
+module _ (b : List ℕ) (n : ℕ) where
+  pub counts_line : (s : Statistics) → Counts wide (take (n - 0) b) (told_counted (Ok s))
+      → CountsIn b n (record { refusal = 0; numbers = s.free_bytes ∷ s.free_blocks ∷ s.largest_free ∷ s.variables ∷ s.pages ∷ s.items ∷ [] })
+  counts_line s a =
+      let z : n - 0 ≡ n = omega arith in
+      let h : Counts wide (take n b) (told_counted (Ok s)) = rw z at a in
+      record { answer = told_counted (Ok s); counts = h; refusal = refl; numbers = refl }
+
+  pub counts_refused : (k : Refusal) (l : Line) → Counts wide (take (n - 0) b) (told_counted (Err k)) → l ≡ line_of (Err k) → CountsIn b n l
+  unfolding counted total greatest
+  counts_refused k l a e =
+      let z : n - 0 ≡ n = omega arith in
+      let h : Counts wide (take n b) (told_counted (Err k)) = rw z at a in
+      record { answer = told_counted (Err k); counts = h; refusal = ap (λ (y : Line). y.refusal) e; numbers = ap (λ (y : Line). y.numbers) e }
 
 -- a length lent, by cases
 pub clip_most : (lent most : ℕ) → most < lent → most ≡ clip lent most

@@ -1,20 +1,19 @@
 -- What a record of a call list answers, and the buffer then.
-use Rattle.std.specs.Prelude.{ℕ, ◌≤◌, ◌<◌, ◌≡◌, cond, List, [], ◌∷◌, ◌++◌, length, take, drop, eqb, ltb}
+use Rattle.std.specs.Prelude.{ℕ, ◌≤◌, ◌<◌, ◌≡◌, cond, List, [], ◌∷◌, ◌++◌, length, take, drop, eqb, ltb, Ok, Err}
 use Rattle.words.specs.Word.{word_at}
 use Rattle.model.specs.Shape.{wide, end_of}
 use Rattle.model.specs.Calls.{Outcome, Told, Allocates, Resizes, Frees, Initialises, Counts}
 use Rattle.model.specs.Reading.{Statistics}
-use Rattle.serving.specs.declared.Answer.{Answer}
-use Rattle.serving.specs.declared.Answer.TheVariants.{Granted, Refused}
-use Rattle.examining.specs.declared.Refusal.TheVariants.{BadLength}
-use Rattle.examining.specs.Examined.{refusal_number}
+use Rattle.model.specs.declared.refusals.Refusal.TheVariants.{BadLength}
+use Rattle.model.specs.Refused.{refusal_number}
+use Rattle.serving.specs.Answers.{Answer}
 use Rattle.records.specs.declared.Line.{Line}
 use Rattle.records.specs.declared.Played.{Played}
 
 -- an answer's line
 abbrev pub line_of : Answer → Line
-line_of (Granted a) = record { refusal = 0; numbers = a.0 ∷ 0 ∷ 0 ∷ 0 ∷ 0 ∷ 0 ∷ [] }
-line_of (Refused k) = record { refusal = refusal_number k; numbers = 0 ∷ 0 ∷ 0 ∷ 0 ∷ 0 ∷ 0 ∷ [] }
+line_of (Ok a) = record { refusal = 0; numbers = a.0 ∷ 0 ∷ 0 ∷ 0 ∷ 0 ∷ 0 ∷ [] }
+line_of (Err k) = record { refusal = refusal_number k; numbers = 0 ∷ 0 ∷ 0 ∷ 0 ∷ 0 ∷ 0 ∷ [] }
 
 -- of a call on the heap that is the first n bytes of b: its line, and the buffer then
 pub record Called (allows : Outcome → Type 0) (b : List ℕ) (n : ℕ) (l : Line) (c : List ℕ) : Type 0 where
@@ -42,7 +41,7 @@ pub record CountsIn (b : List ℕ) (n : ℕ) (l : Line) : Type 0 where
 
 -- of opening a heap in the first n bytes, up to their furthest end: a length beyond the buffer answers 1; what is granted is the heap from then on
 pub record OpensIn (b : List ℕ) (lent n : ℕ) (r : Played) (c : List ℕ) : Type 0 where
-  pub beyond : length b < n → (r ≡ record { line = line_of (Refused BadLength); lent = lent }) × (c ≡ b)
+  pub beyond : length b < n → (r ≡ record { line = line_of (Err BadLength); lent = lent }) × (c ≡ b)
   pub within : n ≤ length b → Called (Initialises wide (take n b) (end_of n)) b n r.line c
   pub granted : n ≤ length b → r.line.refusal ≡ 0 → r.lent ≡ n
   pub refused : n ≤ length b → (r.line.refusal ≡ 0 → ⊥) → r.lent ≡ lent

@@ -1,14 +1,14 @@
 // One record of a call list, played on a heap.
 #![tactic(auto)]
 
-ghost use Rattle.std.specs.Prelude.{◌≡◌, ◌≤◌, ◌<◌, length};
+ghost use Rattle.std.specs.Prelude.{◌≡◌, ◌≤◌, length};
 ghost use Rattle.words.specs.Word.{word_at};
 ghost use Rattle.records.specs.Lines.{body_length, line_of, OpensIn, AllocatesIn, FreesIn, ResizesIn, CountsIn, no_line, clip, CallPlayed, Plays};
 
-use heap::{Answer, Refusal, refusal_number};
+use heap::{Answer, Refusal, Wide};
 use model::{Address, end_of};
 
-// What a record prints behind its number: the refusal, and the address or the six statistics.
+// What a record prints behind its number: the refusal, and the address or the six statistics. It is a line of the list's output, not an answer, so it has both at once.
 #[derive(Clone, Copy)]
 pub struct Line {
     pub refusal: u64,
@@ -20,24 +20,23 @@ fn told(r: Answer) -> Line
     ensures { result ≡ line_of r }
 {
     match r {
-        Answer::Granted(a) => Line {
+        Ok(a) => Line {
             refusal: 0,
             numbers: [a.0 as u64, 0, 0, 0, 0, 0],
         },
-        Answer::Refused(k) => Line {
-            refusal: refusal_number(k),
-            numbers: [0, 0, 0, 0, 0, 0],
+        Err(k) => Line {
+            refusal: u64::from(k),
+            numbers: [0; 6],
         },
     }
 }
 
-// Allocates size bytes in the heap that is the first n bytes of the buffer.
+// Allocates size bytes in the heap that is the first n bytes of the buffer: the contracts here, and the theorem `one_play`, tell what becomes of the whole buffer.
 pub fn allocate(h: &mut [u8], n: usize, size: u64) -> Line
     requires { n ≤ length h.old }
     ensures { AllocatesIn h.old n size result h.new }
 {
-    let r = heap::allocate(&mut h[0..n], size as usize);
-    told(r)
+    told(heap::allocate::<Wide>(&mut h[0..n], size as usize))
 }
 
 // Gives the record at a back, in the same heap.
@@ -45,8 +44,7 @@ pub fn free(h: &mut [u8], n: usize, a: u64) -> Line
     requires { n ≤ length h.old }
     ensures { FreesIn h.old n a result h.new }
 {
-    let r = heap::free(&mut h[0..n], Address(a as usize));
-    told(r)
+    told(heap::free::<Wide>(&mut h[0..n], Address(a as usize)))
 }
 
 // Makes the record at a one of size bytes, there or elsewhere, in the same heap.
@@ -54,8 +52,7 @@ pub fn resize(h: &mut [u8], n: usize, a: u64, size: u64) -> Line
     requires { n ≤ length h.old }
     ensures { ResizesIn h.old n a size result h.new }
 {
-    let r = heap::resize(&mut h[0..n], Address(a as usize), size as usize);
-    told(r)
+    told(heap::resize::<Wide>(&mut h[0..n], Address(a as usize), size as usize))
 }
 
 // The statistics of the same heap.
@@ -63,18 +60,19 @@ pub fn count(h: &[u8], n: usize) -> Line
     requires { n ≤ length h.now }
     ensures { CountsIn h.now n result }
 {
-    let r = heap::statistics(&h[0..n]);
-    let s = r.statistics;
-    Line {
-        refusal: r.refusal,
-        numbers: [
-            s.free_bytes,
-            s.free_blocks,
-            s.largest_free,
-            s.variables,
-            s.pages,
-            s.items,
-        ],
+    match heap::statistics::<Wide>(&h[0..n]) {
+        Ok(s) => Line {
+            refusal: 0,
+            numbers: [
+                s.free_bytes,
+                s.free_blocks,
+                s.largest_free,
+                s.variables,
+                s.pages,
+                s.items,
+            ],
+        },
+        Err(k) => told(Err(k)),
     }
 }
 
@@ -91,25 +89,14 @@ pub fn open(h: &mut [u8], lent: usize, n: u64) -> Played
 {
     let length = n as usize;
     if h.len() < length {
-        let l = told(Answer::Refused(Refusal::BadLength));
-        return Played {
-            line: l,
-            lent: lent,
-        };
+        let line = told(Err(Refusal::BadLength));
+        return Played { line, lent };
     }
-    let end = end_of(length);
-    let r = heap::initialise(&mut h[0..length], end);
-    let l = told(r);
-    if l.refusal == 0 {
-        return Played {
-            line: l,
-            lent: length,
-        };
+    let line = told(heap::initialise::<Wide>(&mut h[0..length], end_of(length)));
+    if line.refusal == 0 {
+        return Played { line, lent: length };
     }
-    Played {
-        line: l,
-        lent: lent,
-    }
+    Played { line, lent }
 }
 
 // How long the body of a record of a kind is; 9 of a kind that there is not.
@@ -117,20 +104,11 @@ pub fn body_length(kind: u8) -> usize
     ensures { (result ≡ body_length kind) × (result ≤ 9) }
 {
     match kind {
-        0 => 4,
-        1 => 4,
+        0 | 1 | 3 => 4,
         2 => 8,
-        3 => 4,
         4 => 0,
         _ => 9,
     }
-}
-
-// One byte, as a number of 64 bits.
-fn wide(b: u8) -> u64
-    ensures { (result ≡ b) × (result < 256) }
-{
-    b as u64
 }
 
 // The number of 4 bytes that stands at a place of a record's body.
@@ -138,20 +116,14 @@ fn number(body: &[u8; 8], at: usize) -> u64
     requires { at ≤ 4 }
     ensures { result ≡ word_at 4 body.now at }
 {
-    let at1 = at + 1;
-    let at2 = at1 + 1;
-    let at3 = at2 + 1;
-    wide(body[at]) + 256 * (wide(body[at1]) + 256 * (wide(body[at2]) + 256 * wide(body[at3])))
+    u64::from(u32::from_le_bytes([body[at], body[at + 1], body[at + 2], body[at + 3]]))
 }
 
 // The length lent, and no more than the buffer has.
 fn clipped(lent: usize, most: usize) -> usize
     ensures { result ≡ clip lent most }
 {
-    if most < lent {
-        return most;
-    }
-    lent
+    lent.min(most)
 }
 
 // A record of a kind that there is not: a line of zeros.
@@ -160,30 +132,23 @@ fn nothing() -> Line
 {
     Line {
         refusal: 0,
-        numbers: [0, 0, 0, 0, 0, 0],
+        numbers: [0; 6],
     }
 }
 
-// A record of kind 1 to 4, on the heap that is the first n bytes of the buffer.
+// A record of kind 1 to 4, which is a byte of the list and may be any (`Plays` and an edit speak of unknown ones), on the heap that is the first n bytes of the buffer.
 fn call(h: &mut [u8], n: usize, kind: u8, body: &[u8; 8]) -> Line
     requires { n ≤ length h.old }
     ensures { CallPlayed h.old n kind body.now result h.new }
 {
     let first = number(body, 0);
-    if kind == 1 {
-        return allocate(h, n, first);
+    match kind {
+        1 => allocate(h, n, first),
+        2 => resize(h, n, first, number(body, 4)),
+        3 => free(h, n, first),
+        4 => count(h, n),
+        _ => nothing(),
     }
-    if kind == 2 {
-        let size = number(body, 4);
-        return resize(h, n, first, size);
-    }
-    if kind == 3 {
-        return free(h, n, first);
-    }
-    if kind == 4 {
-        return count(h, n);
-    }
-    nothing()
 }
 
 // Plays one record: of kind 0 initialise, 1 allocate, 2 resize, 3 free, 4 statistics.
@@ -191,13 +156,9 @@ pub fn play(h: &mut [u8], lent: usize, kind: u8, body: &[u8; 8]) -> Played
     ensures { Plays h.old lent kind body.now result h.new }
 {
     if kind == 0 {
-        let length = number(body, 0);
-        return open(h, lent, length);
+        return open(h, lent, number(body, 0));
     }
     let n = clipped(lent, h.len());
-    let l = call(h, n, kind, body);
-    Played {
-        line: l,
-        lent: lent,
-    }
+    let line = call(h, n, kind, body);
+    Played { line, lent }
 }

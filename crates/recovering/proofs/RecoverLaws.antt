@@ -1,13 +1,7 @@
 -- Pages with no live item are given back: where the walk stands, and what each step leaves.
-use Prim.Native.Nat.{ℕ, suc, ◌+◌, ◌*◌, ◌^◌, ◌≤◌, ◌<◌}
-use mathlib.Core.Path.{◌≡◌, refl, sym, ap, subst, ◌∙◌}
-use mathlib.Core.Bool.{Bool, true, false}
-use mathlib.Core.List.{List, [], ◌∷◌, ◌++◌}
-use mathlib.Core.Option.{some}
-use native.Mathlib.Omega.{arith}
-use native.Mathlib.Decide.{ℕ_discrete}
-use lib.ListN.{length, get_or}
-use borrow.Author.Tests.{eq-eqb, ne_eqb}
+use Rattle.std.proofs.Common.{ℕ, suc, ◌+◌, ◌*◌, ◌^◌, ◌≤◌, ◌<◌, ◌≡◌, refl, sym, ap, subst, ◌∙◌, Bool, true, false, List, [], ◌∷◌, ◌++◌, arith, length, get_or, eq-eqb, ne_eqb, eqb-true, eqb}
+use Rattle.std.proofs.Math.Option.{some}
+use borrow.Author.Tests.{eqb-false}
 use Rattle.words.specs.Width.{Width}
 use Rattle.words.specs.Word.{word_at}
 use Rattle.model.specs.Shape.{shape, end_of, start}
@@ -43,14 +37,16 @@ use Rattle.releasing.proofs.ReleaseLaws.{Joining, joining, released_blocks}
 use Rattle.model.specs.inner.Links.{link_of}
 use Rattle.recovering.specs.Recover.{EmptyTold, Recovered}
 
--- what is told of a page: that it has no live item; that it has some
+-- what is told of a page: whether it has no live item
 module _ (w : ℕ) (b : List ℕ) (p t : ℕ) where
   module _ (z : kind_in t ≡ page_kind) (r : Page) (f : (c k : ℕ) (ss : List Slot) → PageAt w b p c k ss → PageTold r c ss) where
-    pub told_bare : r.held ≡ 0 → EmptyTold w b p t 1
-    told_bare e = record { few = omega arith; page = λ _. z; bare = λ _ c k ss a. sym (f c k ss a).held ∙ e; not_bare = λ y. absurd (omega (arith, y)) }
-
-    pub told_held : (r.held ≡ 0 → ⊥) → EmptyTold w b p t 0
-    told_held n = record { few = omega arith; page = λ _. z; bare = λ y. absurd (y refl); not_bare = λ _ _ c k ss a y. n ((f c k ss a).held ∙ y) }
+    pub told_page : EmptyTold w b p t (eqb r.held 0)
+    told_page =
+        record {
+          page = λ _. z;
+          bare = λ e c k ss a. sym (f c k ss a).held ∙ eqb-true r.held 0 e;
+          not_bare = λ e _ c k ss a y. eqb-false r.held 0 e ((f c k ss a).held ∙ y);
+        }
 
 -- the free block at o ends behind p, within the heap
 pub record Behind (w : ℕ) (b : List ℕ) (p o : ℕ) : Type 0 where
@@ -151,9 +147,9 @@ module _ {w : ℕ} (wd : Width w) {b₀ : List ℕ} {L : Layout} (h : Here (shap
     midway_page z = let q = page_told z in record { class = q.class; spare = q.spare; slots = q.slots; at = laid_page wd laid_now (stands m.passed) q }
 
     -- a block in use that is no page without a live item
-    pub past_used : (kind_in t ≡ free_kind → ⊥) → (r : ℕ) → EmptyTold w b p t r → r ≡ 0 → Midway w b₀ b L (p + size_in t) prev false (k + r)
+    pub past_used : (kind_in t ≡ free_kind → ⊥) → (r : Bool) → EmptyTold w b p t r → r ≡ false → (n : ℕ) → n ≡ 0 → Midway w b₀ b L (p + size_in t) prev false (k + n)
     unfolding block_tag of_block
-    past_used n r a z = let none : k + r ≡ k = omega arith in let x = there wd laid_now (stands m.passed) l in rw none (go x.block x.after x.rest x.met)
+    past_used n r a z i ei = let none : k + i ≡ k = omega (arith, ei) in let x = there wd laid_now (stands m.passed) l in rw none (go x.block x.after x.rest x.met)
       where
         go : (x : Block) (after : List Block) → m.rest ≡ x ∷ after → Met w b now p (last_free (shape w) (start (shape w)) m.pre 0) x after → Midway w b₀ b L (p + size_in t) prev false k
         go (free s) after f y = absurd (n (unfold size_of in omega (arith, y.tag, y.eight)))
@@ -171,7 +167,7 @@ module _ {w : ℕ} (wd : Width w) {b₀ : List ℕ} {L : Layout} (h : Here (shap
             some_held = a.not_bare z paged c j ss (laid_page wd laid_now (stands m.passed) there_is)
 
     -- a page without a live item is given back
-    module _ (r : ℕ) (a : EmptyTold w b p t r) (z : r ≡ 0 → ⊥) (x : UsedBlock) (ea : x.at.0 ≡ p) (es : x.size ≡ size_in t) (ep : x.prev.0 ≡ prev) (et : x.touching ≡ touching) where
+    module _ (r : Bool) (a : EmptyTold w b p t r) (z : r ≡ true) (x : UsedBlock) (ea : x.at.0 ≡ p) (es : x.size ≡ size_in t) (ep : x.prev.0 ≡ prev) (et : x.touching ≡ touching) where
       q : PageThere wd laid_now (stands m.passed) t e l
       q = page_told (a.page z)
 
@@ -264,17 +260,11 @@ module _ {w : ℕ} (wd : Width w) {b₀ : List ℕ} {L : Layout} (h : Here (shap
             rw e
             (record { room = omega (arith, joined.least, joined.inside); on = omega (arith, tag, reach, midway_inside.0, wd); fits = omega (arith, tag, joined.inside, ap length next_bytes ∙ recovered_length (shape w) (suc k) L b₀, short, most_bound wd) })
 
-        one : k + r ≡ suc k
-        one = go (ℕ_discrete r 0)
-          where
-            go : Dec (r ≡ 0) → k + r ≡ suc k
-            go (yes y) = absurd (z y)
-            go (no y) = omega (arith, a.few)
-
         -- THE STEP: the walk goes on behind it
-        pub past_page : (o p' : ℕ) → o ≡ from → p' ≡ o + word_at w c o → Midway w b₀ c L p' o true (k + r)
+        pub past_page : (o p' i : ℕ) → o ≡ from → p' ≡ o + word_at w c o → i ≡ 1 → Midway w b₀ c L p' o true (k + i)
         unfolding last_free ends_free total of_block size_of ends
-        past_page o p' eo ep' =
+        past_page o p' i eo ep' ei =
+            let one : k + i ≡ suc k = omega (arith, ei) in
             rw one
             let n : p' ≡ from + size = ep' ∙ rw eo (ap (λ (y : ℕ). from + y) tag) in
             let none : empties j.pre ≡ 0 = omega (arith, m.clear, ap empties j.pre_is, total_append is_empty j.pre j.lefts) in
@@ -289,3 +279,12 @@ module _ {w : ℕ} (wd : Width w) {b₀ : List ℕ} {L : Layout} (h : Here (shap
               touches = ends_free_append 0 j.pre (free size ∷ []);
               clear = omega (arith, total_append is_empty j.pre (free size ∷ []), none);
             }
+
+-- what a turn of the walk knows of the block at p, below the heap's end: it has room, and the walk gets past it
+module _ {w : ℕ} (wd : Width w) {b₀ : List ℕ} {L : Layout} (h : Here (shape w) b₀ L) (short : length b₀ ≤ (shape w).most) {b : List ℕ} {p prev : ℕ} {touching : Bool} {k : ℕ} (m : Midway w b₀ b L p prev touching k) {e : ℕ}
+    (ee : e ≡ end_of (length b₀)) (l : p < e) where
+  pub turn_below : p < end_of (length b)
+  turn_below = omega (arith, ee, midway_length m)
+
+  pub turn_inside : (t : ℕ) → t ≡ word_at w b p → (0 < size_in t) × (p + size_in t ≤ e) × (p + w ≤ length b) × (e < 2 ^ 63) × (k ≤ p)
+  turn_inside t et = omega (arith, wd, short, most_bound wd, ee, midway_length m, m.small, midway_inside wd h short m t et turn_below)

@@ -1,5 +1,5 @@
 -- What giving back empty pages promises.
-use Rattle.std.specs.Prelude.{ℕ, ◌≤◌, ◌≡◌, List, length}
+use Rattle.std.specs.Prelude.{ℕ, ◌≡◌, Bool, true, false, List, length}
 use Rattle.model.specs.Shape.{shape}
 use Rattle.model.specs.Parts.{kind_in, page_kind}
 use Rattle.model.specs.Layout.{Slot, Layout}
@@ -9,12 +9,11 @@ use Rattle.model.specs.Calls.{drawn, drawn_in_turn}
 use Rattle.model.specs.inner.Laid.{Linkable}
 use Rattle.reading.specs.Counting.{PageAt}
 
--- r is 1 where the block at p, of tag t, is a page with no live item, else 0
-pub record EmptyTold (w : ℕ) (b : List ℕ) (p t r : ℕ) : Type 0 where
-  pub few : r ≤ 1
-  pub page : (r ≡ 0 → ⊥) → kind_in t ≡ page_kind
-  pub bare : (r ≡ 0 → ⊥) → (c k : ℕ) (ss : List Slot) → PageAt w b p c k ss → held_in ss ≡ 0
-  pub not_bare : r ≡ 0 → kind_in t ≡ page_kind → (c k : ℕ) (ss : List Slot) → PageAt w b p c k ss → held_in ss ≡ 0 → ⊥
+-- whether the block at p, of tag t, is a page with no live item
+pub record EmptyTold (w : ℕ) (b : List ℕ) (p t : ℕ) (r : Bool) : Type 0 where
+  pub page : r ≡ true → kind_in t ≡ page_kind
+  pub bare : r ≡ true → (c k : ℕ) (ss : List Slot) → PageAt w b p c k ss → held_in ss ≡ 0
+  pub not_bare : r ≡ false → kind_in t ≡ page_kind → (c k : ℕ) (ss : List Slot) → PageAt w b p c k ss → held_in ss ≡ 0 → ⊥
 
 -- n pages were given back, and the bytes c have the layout that is left: the lists linked anew there are what a sweep leaves
 pub record Recovered (w : ℕ) (b : List ℕ) (L : Layout) (n : ℕ) (c : List ℕ) : Type 0 where

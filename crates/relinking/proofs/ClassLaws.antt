@@ -1,13 +1,6 @@
 -- A class's list is linked anew: a 0 at its head, the levels in front of that, and what it named before is of no account.
-use Prim.Native.Nat.{ℕ, ◌%◌, ◌≤◌, ◌<◌}
-use mathlib.Core.Path.{◌≡◌, refl, sym, ap, subst, ◌∙◌}
-use mathlib.Core.List.{List, [], ◌∷◌, ◌++◌, append_assoc}
-use mathlib.Core.Logic.{⊎_elim}
-use native.Mathlib.Omega.{arith}
-use native.Mathlib.Decide.{ℕ_discrete}
-use lib.ListN.{length, get_or}
-use lib.Seq.{set-set}
-use borrow.Author.Tests.{eq-eqb, ne_eqb}
+use Rattle.std.proofs.Common.{ℕ, ◌%◌, ◌≤◌, ◌<◌, ◌≡◌, refl, sym, ap, subst, ◌∙◌, List, [], ◌∷◌, ◌++◌, append_assoc, ⊎_elim, arith, length, get_or, set-set, eq-eqb, ne_eqb}
+use Rattle.std.proofs.Math.Decide.{ℕ_discrete}
 use Rattle.words.specs.Width.{Width}
 use Rattle.words.specs.Word.{put, Bytes}
 use Rattle.model.specs.Shape.{shape, start, end_of}
@@ -90,16 +83,16 @@ module _ {w : ℕ} (wd : Width w) {b : List ℕ} (bytes : Bytes b) (short : leng
       (became_as wd bytes short k new_laid refl)
 
 -- the head is set to 0, and then the levels are pushed
-module _ {w : ℕ} {b : List ℕ} {c : ℕ} (r : ClassReady w b c) (bytes : Bytes b) {table : List ℕ} {m : ℕ} (g : (L : Layout) → Laid w b L → Gathered w c L table m) (head : ℕ) (eh : head ≡ head_at (shape w) c) {h : List ℕ} (e : h ≡ put w b head 0) where
+module _ {w : ℕ} {b : List ℕ} {c : ℕ} (r : ClassReady w b c) (bytes : Bytes b) {table : List ℕ} (g : (L : Layout) → Laid w b L → Gathered w c L table) (head : ℕ) (eh : head ≡ head_at (shape w) c) {h : List ℕ} (e : h ≡ put w b head 0) where
   emptied : (L : Layout) → Laid w b L → Became w b (in_front c (0 ∷ []) L) h
   emptied L y = zero_became r.width bytes r.short y r.class head eh e
 
-  pub emptied_level : LevelReady w h c table m
+  pub emptied_level : LevelReady w h c table
   emptied_level =
       let z = emptied r.layout r.laid in
       record { width = r.width; layout = in_front c (0 ∷ []) r.layout; laid = z.laid; short = omega (arith, became_length z, r.short); class = r.class; gathered = gathered_listing (0 ∷ get_or r.layout.lists c []) (g r.layout r.laid) }
 
-  pub class_linked : {d : List ℕ} → LevelsPushed w h c table m d → ClassLinked w b c d
+  pub class_linked : {d : List ℕ} → LevelsPushed w h c table d → ClassLinked w b c d
   class_linked {d} p =
       record {
         is = λ L y.

@@ -1,11 +1,6 @@
 -- The entries of a class's pages are gathered by a walk over the blocks.
-use Prim.Native.Nat.{ℕ, suc, ◌+◌, ◌*◌, ◌^◌, ◌≤◌, ◌<◌}
-use mathlib.Core.Path.{◌≡◌, refl, sym, ap, subst, ◌∙◌}
-use mathlib.Core.List.{List, [], ◌∷◌, ◌++◌, append-nil}
-use native.Mathlib.Omega.{arith}
-use lib.ListN.{length, set, take, length-set}
-use lib.Seq.{length-take-le, take-suc-set}
-use borrow.Author.Tests.{eq-eqb, ne_eqb}
+use Rattle.std.proofs.Common.{Some, None, ℕ, suc, ◌+◌, ◌*◌, ◌^◌, ◌≤◌, ◌<◌, ◌≡◌, refl, sym, ap, subst, ◌∙◌, List, [], ◌∷◌, ◌++◌, append-nil, arith, length, set, take, length-set, length-take-le, take-suc-set, eq-eqb, ne_eqb}
+use Rattle.std.specs.declared.option.Option.{Option}
 use Rattle.words.specs.Width.{Width}
 use Rattle.words.specs.Word.{word_at}
 use Rattle.model.specs.Shape.{shape, start, least_free, end_of}
@@ -14,7 +9,6 @@ use Rattle.model.specs.Layout.{Slot, variable, page, Block, free, used, Layout, 
 use Rattle.model.specs.inner.Laid.{Laid}
 use Rattle.model.specs.inner.Walks.{Passed, Gone, last_free}
 use Rattle.model.proofs.Sizes.{page_least, most_bound}
-use Rattle.model.proofs.blocks.Blocks.{le_ends}
 use Rattle.model.proofs.walks.Totals.{held_few}
 use Rattle.model.proofs.walks.Standing.{Met, met, there, sized, size_is, is_page, block_tag}
 use Rattle.model.proofs.walks.Passing.{stands, passed_allowed, gone_start, gone_on, gone_done}
@@ -48,14 +42,14 @@ module _ {w : ℕ} (wd : Width w) {b : List ℕ} {L : Layout} (h : Laid w b L) {
   other_class (used (page a k ss)) m y d ey ed n = rw (ne_eqb c a (λ z. n (page_class (page_here m) y d ey ed ∙ sym z))) refl
 
   this_page : {pre after : List Block} (x : Block) → Passed w L p pre (x ∷ after) → kind_in t ≡ page_kind → (y d : ℕ) → y ≡ word_at w b (first_item_at (shape w) p) → d ≡ class_in (shape w) y → d ≡ c
-      → (r : Page) → ((a k : ℕ) (ss : List Slot) → PageAt w b p a k ss → PageTold r a ss) → entries (leaf (shape w) c p x) ≡ unless_none (entry_of p r.held)
+      → (r : Page) → ((a k : ℕ) (ss : List Slot) → PageAt w b p a k ss → PageTold r a ss) → entries (leaf (shape w) c p x) ≡ unless_none (Some (entry_of p r.held))
   unfolding entries leaf block_tag size_of use_size
   this_page (free s) m z y d ey ed n r told = absurd (omega (arith, e, (met_at m).tag, (met_at m).eight))
   this_page (used (variable s)) m z y d ey ed n r told = absurd (omega (arith, e, (met_at m).tag, (met_at m).eight))
   this_page {pre} (used (page a k ss)) m z y d ey ed n r told =
       let f = page_class (page_here m) y d ey ed in
       let g = (told a k ss (page_here m)).held in
-      rw (eq-eqb c a (sym n ∙ f), ne_eqb (entry_of p r.held) 0 (λ i. omega (arith, le_ends (shape w) (start (shape w)) pre, m.begins)), g) refl
+      rw (eq-eqb c a (sym n ∙ f), g) refl
 
 module _ {w : ℕ} {b : List ℕ} {p t : ℕ} (k : AtBlock w b p t) where
   -- the block that there is
@@ -80,19 +74,19 @@ module _ {w : ℕ} {b : List ℕ} {p t : ℕ} (k : AtBlock w b p t) where
       let g = (told a.class a.spare a.slots a.at).held in
       omega (arith, g, held_few a.slots, a.at.count, live_room_lem k.width a.class)
 
-  pub told_none : (c : ℕ) → (kind_in t ≡ page_kind → ⊥) → EntryTold w b p c 0
+  pub told_none : (c : ℕ) → (kind_in t ≡ page_kind → ⊥) → EntryTold w b p c None
   told_none c n = record { is = λ L pre after x h s. no_page k.width h k.tag k.inside c x s n }
 
   -- q is where the first item's header stands, and y that header, as code works them out
-  pub told_other : (c q y d : ℕ) → q ≡ first_item_at (shape w) p → y ≡ word_at w b q → d ≡ class_in (shape w) y → (d ≡ c → ⊥) → EntryTold w b p c 0
+  pub told_other : (c q y d : ℕ) → q ≡ first_item_at (shape w) p → y ≡ word_at w b q → d ≡ class_in (shape w) y → (d ≡ c → ⊥) → EntryTold w b p c None
   told_other c q y d eq ey ed n = record { is = λ L pre after x h s. other_class k.width h k.tag k.inside c x s y d (ey ∙ ap (word_at w b) eq) ed n }
 
   pub told_page : (c : ℕ) → kind_in t ≡ page_kind → (q y d : ℕ) → q ≡ first_item_at (shape w) p → y ≡ word_at w b q → d ≡ class_in (shape w) y → d ≡ c
-      → (r : Page) → ((a j : ℕ) (ss : List Slot) → PageAt w b p a j ss → PageTold r a ss) → (e : ℕ) → e ≡ entry_of p r.held → EntryTold w b p c e
+      → (r : Page) → ((a j : ℕ) (ss : List Slot) → PageAt w b p a j ss → PageTold r a ss) → (e : ℕ) → e ≡ entry_of p r.held → EntryTold w b p c (Some e)
   told_page c z q y d eq ey ed n r told e ee =
       record {
         is = λ L pre after x h s.
-            this_page k.width h k.tag k.inside c x s z y d (ey ∙ ap (word_at w b) eq) ed n r told ∙ ap unless_none (sym ee);
+            this_page k.width h k.tag k.inside c x s z y d (ey ∙ ap (word_at w b) eq) ed n r told ∙ ap (λ (i : ℕ). unless_none (Some i)) (sym ee);
       }
 
 -- the walk stands at p, and the entries of the blocks before it are the first m of the table
@@ -107,8 +101,8 @@ unfolding entries leaves
 gather_start {w} k c table p e r = record { heap = k; room = r; fits = omega arith; gone = λ L h. rw e (gone_start (λ pre. entries (leaves (shape w) c (start (shape w)) pre)) L [] refl) }
 
 module _ {w : ℕ} {b : List ℕ} {c : ℕ} {table : List ℕ} {p m : ℕ} (g : Gathering w b c table p m) where
-  pub gather_done : end_of (length b) ≤ p → (L : Layout) → Laid w b L → Gathered w c L table m
-  gather_done l L h = record { fits = g.fits; are = gone_done (λ pre. entries (leaves (shape w) c (start (shape w)) pre)) g.heap.width h (g.gone L h) l }
+  pub gather_done : end_of (length b) ≤ p → (L : Layout) → Laid w b L → Gathered w c L (take m table)
+  gather_done l L h = record { are = gone_done (λ pre. entries (leaves (shape w) c (start (shape w)) pre)) g.heap.width h (g.gone L h) l }
 
   module _ (l : p < end_of (length b)) where
     -- there is room for one entry more
@@ -129,7 +123,7 @@ module _ {w : ℕ} {b : List ℕ} {c : ℕ} {table : List ℕ} {p m : ℕ} (g : 
       pub gather_sized : (4 * w ≤ size_in t) × (p + size_in t ≤ end_of (length b))
       gather_sized = at_sized gather_at
 
-      module _ (r : ℕ) (told : EntryTold w b p c r) where
+      module _ (r : Option ℕ) (told : EntryTold w b p c r) where
         -- the walk goes on, and the entry with it
         on : (table' : List ℕ) (m' : ℕ) → take m' table' ≡ take m table ++ unless_none r → (L : Layout) → Laid w b L → Gone w (λ pre. entries (leaves (shape w) c (start (shape w)) pre)) L (p + size_in t) (take m' table')
         on table' m' more L h =
@@ -141,19 +135,19 @@ module _ {w : ℕ} {b : List ℕ} {c : ℕ} {table : List ℕ} {p m : ℕ} (g : 
             gone_on (λ pre. entries (leaves (shape w) c (start (shape w)) pre)) wd h k x.block x.after x.rest (size_in t) (size_is wd h (stands k.passed) t e l x.block x.after x.met) (take m' table')
             (more ∙ rw (k.so_far, ← here) (sym (entries_more (shape w) c (start (shape w)) k.pre x.block)))
 
-        pub gather_none : r ≡ 0 → (s : ℕ) → s ≡ size_in t → Gathering w b c table (p + s) m
+        pub gather_none : r ≡ None → (s : ℕ) → s ≡ size_in t → Gathering w b c table (p + s) m
         gather_none z s es =
             rw es
-            (record { heap = g.heap; room = g.room; fits = g.fits; gone = on table m (sym (ap (λ (y : ℕ). take m table ++ unless_none y) z ∙ append-nil (take m table))) })
+            (record { heap = g.heap; room = g.room; fits = g.fits; gone = on table m (sym (ap (λ (y : Option ℕ). take m table ++ unless_none y) z ∙ append-nil (take m table))) })
 
-        pub gather_more : (r ≡ 0 → ⊥) → (s : ℕ) → s ≡ size_in t → Gathering w b c (set table m r) (p + s) (m + 1)
-        gather_more z s es =
-            let n = length-set table m r in
+        pub gather_more : (i : ℕ) → r ≡ Some i → (s : ℕ) → s ≡ size_in t → Gathering w b c (set table m i) (p + s) (m + 1)
+        gather_more i z s es =
+            let n = length-set table m i in
             let one : m + 1 ≡ suc m = omega arith in
             rw (es, one)
             (record {
               heap = g.heap;
               room = rw n g.room;
               fits = omega (arith, n, gather_room);
-              gone = on (set table m r) (suc m) (take-suc-set table m r gather_room ∙ rw (ne_eqb r 0 z) refl);
+              gone = on (set table m i) (suc m) (take-suc-set table m i gather_room ∙ sym (ap (λ (y : Option ℕ). take m table ++ unless_none y) z));
             })

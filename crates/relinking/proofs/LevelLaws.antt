@@ -1,10 +1,6 @@
 -- The pages of the table with k live items are pushed, from the last to the first.
-use Prim.Native.Nat.{ℕ, suc, ◌-◌, ◌≤◌, ◌<◌}
-use mathlib.Core.Path.{◌≡◌, sym, ap, subst, ◌∙◌}
-use mathlib.Core.List.{List, [], ◌++◌}
-use native.Mathlib.Omega.{arith}
-use lib.ListN.{length, get_or, drop}
-use lib.Seq.{length-take-le, drop-length, get_or-take}
+use Rattle.std.proofs.Common.{ℕ, suc, ◌≤◌, ◌<◌, ◌≡◌, sym, ap, subst, ◌∙◌, List, [], ◌++◌, arith, length, get_or, drop}
+use Rattle.std.proofs.Math.Seq.{drop-length}
 use Rattle.words.specs.Width.{Width}
 use Rattle.words.specs.Word.{Bytes}
 use Rattle.model.specs.Shape.{shape, start}
@@ -29,18 +25,18 @@ abbrev pub nth : ℕ → ℕ → Layout → ℕ → Leaf
 nth w c L j = get_or (pages w c L) j blank
 
 -- those from number i on are pushed
-pub record Levelling (w : ℕ) (b : List ℕ) (c : ℕ) (table : List ℕ) (m k : ℕ) (h : List ℕ) (i : ℕ) : Type 0 where
-  pub heap : LevelReady w b c table m
+pub record Levelling (w : ℕ) (b : List ℕ) (c : ℕ) (table : List ℕ) (k : ℕ) (h : List ℕ) (i : ℕ) : Type 0 where
+  pub heap : LevelReady w b c table
   pub bytes : Bytes b
-  pub few : i ≤ m
-  pub became : (L : Layout) → Laid w b L → Gathered w c L table m → Became w b (in_front c (level_of (shape w) k c (drop i (pages w c L))) L) h
+  pub few : i ≤ length table
+  pub became : (L : Layout) → Laid w b L → Gathered w c L table → Became w b (in_front c (level_of (shape w) k c (drop i (pages w c L))) L) h
 
 -- the table has an entry for each page
-pub table_length : {w c : ℕ} {L : Layout} {table : List ℕ} {m : ℕ} → Gathered w c L table m → length (pages w c L) ≡ m
-table_length {w} {c} {L} {table} {m} g = sym (length_entries (pages w c L)) ∙ ap length (sym g.are) ∙ length-take-le m table g.fits
+pub table_length : {w c : ℕ} {L : Layout} {table : List ℕ} → Gathered w c L table → length (pages w c L) ≡ length table
+table_length {w} {c} {L} {table} g = sym (length_entries (pages w c L)) ∙ ap length (sym g.are)
 
 -- what its entry with number j says
-module _ {w : ℕ} (wd : Width w) {b : List ℕ} {c : ℕ} {table : List ℕ} {m : ℕ} {L : Layout} (y : Laid w b L) (g : Gathered w c L table m) (j : ℕ) (l : j < m) where
+module _ {w : ℕ} (wd : Width w) {b : List ℕ} {c : ℕ} {table : List ℕ} {L : Layout} (y : Laid w b L) (g : Gathered w c L table) (j : ℕ) (l : j < length table) where
   in_leaves : j < length (pages w c L)
   in_leaves = omega (arith, table_length g)
 
@@ -48,7 +44,7 @@ module _ {w : ℕ} (wd : Width w) {b : List ℕ} {c : ℕ} {table : List ℕ} {m
   there = leaf_there L c j in_leaves
 
   entry_is : get_or table j 0 ≡ entry_of (nth w c L j).at (held_in (nth w c L j).slots)
-  entry_is = sym (get_or-take m table j 0 l) ∙ ap (λ (l : List ℕ). get_or l j 0) g.are ∙ get_entries j (pages w c L) in_leaves
+  entry_is = ap (λ (l : List ℕ). get_or l j 0) g.are ∙ get_entries j (pages w c L) in_leaves
 
   small : held_in (nth w c L j).slots < live_room
   small = omega (arith, held_few (nth w c L j).slots, page_count wd y there, live_room_lem wd c)
@@ -59,24 +55,24 @@ module _ {w : ℕ} (wd : Width w) {b : List ℕ} {c : ℕ} {table : List ℕ} {m
   pub live_is : live_in (get_or table j 0) ≡ held_in (nth w c L j).slots
   live_is = ap live_in entry_is ∙ entry_live (nth w c L j).at (held_in (nth w c L j).slots) small
 
-pub level_start : {w : ℕ} {b : List ℕ} {c : ℕ} {table : List ℕ} {m : ℕ} → LevelReady w b c table m → Bytes b → (k : ℕ) → Levelling w b c table m k b m
+pub level_start : {w : ℕ} {b : List ℕ} {c : ℕ} {table : List ℕ} → LevelReady w b c table → Bytes b → (k : ℕ) → Levelling w b c table k b (length table)
 unfolding level_of
-level_start {w} {b} {c} {table} {m} r bytes k =
+level_start {w} {b} {c} {table} r bytes k =
     record {
       heap = r;
       bytes = bytes;
       few = omega arith;
       became = λ L h g.
-          let e : drop m (pages w c L) ≡ [] =
+          let e : drop (length table) (pages w c L) ≡ [] =
           ap (λ (y : ℕ). drop y (pages w c L)) (sym (table_length g)) ∙ drop-length (pages w c L) in
           subst (λ (xs : List Leaf). Became w b (in_front c (level_of (shape w) k c xs) L) b) (sym e) (front_none c (became_start r.width bytes r.short h));
     }
 
-module _ {w : ℕ} {b : List ℕ} {c : ℕ} {table : List ℕ} {m k : ℕ} {h : List ℕ} {i : ℕ} (v : Levelling w b c table m k h i) where
+module _ {w : ℕ} {b : List ℕ} {c : ℕ} {table : List ℕ} {k : ℕ} {h : List ℕ} {i : ℕ} (v : Levelling w b c table k h i) where
   pub level_length : length h ≡ length b
   level_length = became_length (v.became v.heap.layout v.heap.laid v.heap.gathered)
 
-  pub level_done : i ≡ 0 → LevelPushed w b c table m k h
+  pub level_done : i ≡ 0 → LevelPushed w b c table k h
   level_done e =
       record {
         is = λ L y g.
@@ -85,13 +81,10 @@ module _ {w : ℕ} {b : List ℕ} {c : ℕ} {table : List ℕ} {m k : ℕ} {h : 
             subst (λ (l : List ℕ). Became w b (in_front c l L) h) z (v.became L y g);
       }
 
-  pub level_in : (i ≡ 0 → ⊥) → i - 1 < length table
-  level_in n = omega (arith, v.few, v.heap.gathered.fits)
-
   -- j is the number of the page, e its entry, p and n what that says, as code works them out
   module _ (j : ℕ) (ej : i ≡ suc j) (e : ℕ) (ee : e ≡ get_or table j 0) where
-    module _ {L : Layout} (y : Laid w b L) (g : Gathered w c L table m) where
-      lj : j < m
+    module _ {L : Layout} (y : Laid w b L) (g : Gathered w c L table) where
+      lj : j < length table
       lj = omega (arith, v.few)
 
       page_is : page_in e ≡ (nth w c L j).at
@@ -136,8 +129,8 @@ module _ {w : ℕ} {b : List ℕ} {c : ℕ} {table : List ℕ} {m k : ℕ} {h : 
           there = there_now r.laid r.gathered p ep;
         }
 
-    pub level_pushed : (p n : ℕ) → p ≡ page_in e → n ≡ live_in e → n ≡ k → {d : List ℕ} → PagePushed w h p c d → Levelling w b c table m k d j
+    pub level_pushed : (p n : ℕ) → p ≡ page_in e → n ≡ live_in e → n ≡ k → {d : List ℕ} → PagePushed w h p c d → Levelling w b c table k d j
     level_pushed p n ep en is {d} q = record { heap = v.heap; bytes = v.bytes; few = omega (arith, v.few); became = λ L y g. push_it y g p n ep en is q }
 
-    pub level_passed : (n : ℕ) → n ≡ live_in e → (n ≡ k → ⊥) → Levelling w b c table m k h j
+    pub level_passed : (n : ℕ) → n ≡ live_in e → (n ≡ k → ⊥) → Levelling w b c table k h j
     level_passed n en not = record { heap = v.heap; bytes = v.bytes; few = omega (arith, v.few); became = λ L y g. pass_it y g n en not }

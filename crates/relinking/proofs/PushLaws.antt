@@ -1,10 +1,6 @@
 -- The free items of a page are pushed, from the last to the first.
-use Prim.Native.Nat.{ℕ, zero, suc, ◌+◌, ◌-◌, ◌*◌, ◌^◌, ◌≤◌, ◌<◌}
-use mathlib.Core.Path.{◌≡◌, refl, sym, ap, subst, ◌∙◌}
-use mathlib.Core.List.{List, [], ◌∷◌, ◌++◌}
-use native.Mathlib.Omega.{arith}
-use lib.ListN.{length, get_or, drop}
-use lib.Seq.{drop-length}
+use Rattle.std.proofs.Common.{ℕ, zero, suc, ◌+◌, ◌-◌, ◌*◌, ◌^◌, ◌≤◌, ◌<◌, ◌≡◌, refl, sym, ap, subst, ◌∙◌, List, [], ◌∷◌, ◌++◌, arith, length, get_or, drop, mul-le-mul_left}
+use Rattle.std.proofs.Math.Seq.{drop-length}
 use Rattle.words.specs.Word.{word_at, put, Bytes}
 use Rattle.words.proofs.WordLaws.{length_put, word_same, word_other, word_fits, put_over, put_swap}
 use Rattle.model.specs.Shape.{shape, start, index, item_size, offset_of}
@@ -16,7 +12,6 @@ use Rattle.model.specs.inner.Items.{InBlocks}
 use Rattle.model.proofs.Sizes.{words_fit}
 use Rattle.model.proofs.pictures.Pictures.{put_again}
 use Rattle.items.proofs.GiveLaws.{Numbers, give_numbers, give_at}
-use native.Mathlib.Nat.{mul-le-mul_left}
 use Rattle.model.proofs.items.Items.{blocks_range}
 use Rattle.items.specs.Items.{ItemIn, GaveItem}
 use Rattle.relinking.specs.Relink.{PageThere, in_front, Became, PageReady, PagePushed}

@@ -1,5 +1,6 @@
 -- What linking the lists anew asks and promises.
-use Rattle.std.specs.Prelude.{ℕ, ◌+◌, ◌*◌, ◌/◌, ◌%◌, ◌^◌, ◌≤◌, ◌<◌, ◌≡◌, cond, List, [], ◌∷◌, ◌++◌, length, get_or, set, take, eqb}
+use Rattle.std.specs.Prelude.{ℕ, ◌+◌, ◌*◌, ◌/◌, ◌%◌, ◌^◌, ◌≤◌, ◌<◌, ◌≡◌, cond, List, [], ◌∷◌, ◌++◌, length, get_or, set, eqb, Some, None}
+use Rattle.std.specs.declared.option.Option.{Option}
 use Rattle.words.specs.Width.{Width}
 use Rattle.words.specs.Word.{word_at}
 use Rattle.model.specs.Shape.{Shape, shape, start, end_of}
@@ -103,40 +104,40 @@ pub record AtBlock (w : ℕ) (b : List ℕ) (p t : ℕ) : Type 0 where
   pub inside : p < end_of (length b)
   pub tag : t ≡ word_at w b p
 
--- r is the entry of the page of class c that the block there is, 0 where it is none
-abbrev pub unless_none : ℕ → List ℕ
-unless_none r = cond (eqb r 0) [] (r ∷ [])
+-- r is the entry of the page of class c that the block there is, or none
+abbrev pub unless_none : Option ℕ → List ℕ
+unless_none None = []
+unless_none (Some e) = e ∷ []
 
-pub record EntryTold (w : ℕ) (b : List ℕ) (p c r : ℕ) : Type 0 where
+pub record EntryTold (w : ℕ) (b : List ℕ) (p c : ℕ) (r : Option ℕ) : Type 0 where
   pub is : (L : Layout) (pre after : List Block) (x : Block) → Laid w b L → Passed w L p pre (x ∷ after) → entries (leaf (shape w) c p x) ≡ unless_none r
 
--- the table's first m are the entries of the pages of class c
-pub record Gathered (w c : ℕ) (L : Layout) (table : List ℕ) (m : ℕ) : Type 0 where
-  pub fits : m ≤ length table
-  pub are : take m table ≡ entries (leaves (shape w) c (start (shape w)) L.blocks)
+-- the table has the entries of the pages of class c
+pub record Gathered (w c : ℕ) (L : Layout) (table : List ℕ) : Type 0 where
+  pub are : table ≡ entries (leaves (shape w) c (start (shape w)) L.blocks)
 
 -- so it is of a heap that is laid out
-pub record LevelReady (w : ℕ) (b : List ℕ) (c : ℕ) (table : List ℕ) (m : ℕ) : Type 0 where
+pub record LevelReady (w : ℕ) (b : List ℕ) (c : ℕ) (table : List ℕ) : Type 0 where
   pub width : Width w
   pub layout : Layout
   pub laid : Laid w b layout
   pub short : length b ≤ (shape w).most
   pub class : c < (shape w).classes
-  pub gathered : Gathered w c layout table m
+  pub gathered : Gathered w c layout table
 
--- r is the least number of live items from k on and below most that a page of the table's first m has; most where none has
-pub record NextLevel (table : List ℕ) (m k most r : ℕ) : Type 0 where
+-- r is the least number of live items from k on and below most that a page of the table has; most where none has
+pub record NextLevel (table : List ℕ) (k most r : ℕ) : Type 0 where
   pub from : k ≤ r
   pub to : r ≤ most
-  pub none : (j : ℕ) → j < m → k ≤ live_in (get_or table j 0) → r ≤ live_in (get_or table j 0)
+  pub none : (j : ℕ) → j < length table → k ≤ live_in (get_or table j 0) → r ≤ live_in (get_or table j 0)
 
 -- the free items of its pages with k live items are in front of their list
-pub record LevelPushed (w : ℕ) (b : List ℕ) (c : ℕ) (table : List ℕ) (m k : ℕ) (d : List ℕ) : Type 0 where
-  pub is : (L : Layout) → Laid w b L → Gathered w c L table m → Became w b (in_front c (idle_with (shape w) k c (start (shape w)) L.blocks) L) d
+pub record LevelPushed (w : ℕ) (b : List ℕ) (c : ℕ) (table : List ℕ) (k : ℕ) (d : List ℕ) : Type 0 where
+  pub is : (L : Layout) → Laid w b L → Gathered w c L table → Became w b (in_front c (idle_with (shape w) k c (start (shape w)) L.blocks) L) d
 
 -- those of all its pages are, in the order of a list that is linked anew
-pub record LevelsPushed (w : ℕ) (b : List ℕ) (c : ℕ) (table : List ℕ) (m : ℕ) (d : List ℕ) : Type 0 where
-  pub is : (L : Layout) → Laid w b L → Gathered w c L table m → Became w b (in_front c (relinked (shape w) ((shape w).per_page c) c L.blocks) L) d
+pub record LevelsPushed (w : ℕ) (b : List ℕ) (c : ℕ) (table : List ℕ) (d : List ℕ) : Type 0 where
+  pub is : (L : Layout) → Laid w b L → Gathered w c L table → Became w b (in_front c (relinked (shape w) ((shape w).per_page c) c L.blocks) L) d
 
 -- a heap that is laid out, and a class
 pub record ClassReady (w : ℕ) (b : List ℕ) (c : ℕ) : Type 0 where

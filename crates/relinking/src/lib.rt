@@ -2,7 +2,7 @@
 // A list is built from its end: what is to come first is pushed last.
 #![tactic(auto)]
 
-ghost use Rattle.std.specs.Prelude.{◌≡◌, true, ◌≤◌, ◌<◌, ◌^◌, length};
+ghost use Rattle.std.specs.Prelude.{◌≡◌, true, ◌≤◌, ◌<◌, ◌^◌, length, take};
 ghost use Rattle.model.specs.Shape.{shape};
 ghost use Rattle.model.specs.Layout.{Layout};
 ghost use Rattle.model.specs.inner.Laid.{Laid};
@@ -14,9 +14,9 @@ use model::{
     paged_bytes, size_in, start, used_in,
 };
 use reading::counting::page_at;
-use words::{put_word, word};
+use words::Width;
 
-// A page has fewer live items than this, so its position and they make one number.
+// A page has fewer live items than this, so its position and they make one number: a table of these is half as long, and it is cleared at each sweep.
 const LIVE_ROOM: usize = 4294967296;
 
 fn entry_of(p: Position, live: usize) -> usize
@@ -39,189 +39,178 @@ fn live_in(e: usize) -> usize
 }
 
 // The free items of the page of class c at p go to the head of their list, from the last to the first. The head itself is written at the end.
-fn push_page(w: usize, h: &mut [u8], p: Position, c: usize)
-    requires { PageReady w h.old p.0 c }
-    ensures { PagePushed w h.old p.0 c h.new }
+fn push_page<W: Width>(h: &mut [u8], p: Position, c: usize)
+    requires { PageReady W.BYTES h.old p.0 c }
+    ensures { PagePushed W.BYTES h.old p.0 c h.new }
 {
-    let size = item_size(w, c);
-    let at = head_at(w, c);
-    let first = first_item_at(w, p);
-    let mut head = ItemOffset(word(w, h, at.0));
-    let mut q = Position(first.0 + items_in_page(w, c) * size);
+    let size = item_size::<W>(c);
+    let at = head_at::<W>(c);
+    let first = first_item_at::<W>(p);
+    let mut head = ItemOffset(W::word(h, at.0));
+    let mut q = Position(first.0 + items_in_page::<W>(c) * size);
+    // Down by the items' places, which are read and written: a reversed `step_by` would divide by the item's size.
     while first.0 < q.0 {
         q = Position(q.0 - size);
-        if used_in(word(w, h, q.0)) == 0 {
-            put_word(w, h, q.0, free_header(c, head));
-            head = offset_of(w, q);
+        if used_in(W::word(h, q.0)) == 0 {
+            W::put_word(h, q.0, free_header(c, head));
+            head = offset_of::<W>(q);
         }
     }
-    put_word(w, h, at.0, head.0);
+    W::put_word(h, at.0, head.0);
 }
 
-// The entry of the page of class c that the block at p, with tag t, is; 0 where it is none. Other classes' pages are not counted.
-fn entry_at(w: usize, h: &[u8], p: Position, t: usize, c: usize) -> usize
-    requires { AtBlock w h.now p.0 t }
-    ensures { EntryTold w h.now p.0 c result }
+// The entry of the page of class c that the block at p, with tag t, is, or none. Other classes' pages are not counted.
+fn entry_at<W: Width>(h: &[u8], p: Position, t: usize, c: usize) -> Option<usize>
+    requires { AtBlock W.BYTES h.now p.0 t }
+    ensures { EntryTold W.BYTES h.now p.0 c result }
 {
     if kind_in(t) != PAGE {
-        return 0;
+        return None;
     }
-    let first = first_item_at(w, p);
-    if class_in(w, word(w, h, first.0)) != c {
-        return 0;
+    let first = first_item_at::<W>(p);
+    if class_in::<W>(W::word(h, first.0)) != c {
+        return None;
     }
-    let page = page_at(w, h, p);
-    entry_of(p, page.held as usize)
+    let page = page_at::<W>(h, p);
+    Some(entry_of(p, page.held as usize))
 }
 
 // The entries of the pages of class c, rising, go to the table: how many.
-fn gather(w: usize, h: &[u8], c: usize, table: &mut [usize]) -> usize
-    requires ready { Ready w h.now }
-    requires roomy { Roomy w (length h.now) (length table.old) }
-    ensures { (L : Layout) → Laid w h.now L → Gathered w c L table.new result }
+fn gather<W: Width>(h: &[u8], c: usize, table: &mut [usize]) -> usize
+    requires ready { Ready W.BYTES h.now }
+    requires roomy { Roomy W.BYTES (length h.now) (length table.old) }
+    ensures fits { result ≤ length table.new }
+    ensures gathered { (L : Layout) → Laid W.BYTES h.now L → Gathered W.BYTES c L (take result table.new) }
 {
+    // No loop over `blocks`, which asks for a sound heap: while lists are linked anew this is only laid out.
     let end = end_of(h.len());
-    let mut p = start(w);
+    let mut p = start::<W>();
     let mut m = 0;
     while p.0 < end.0 {
-        let t = word(w, h, p.0);
-        let e = entry_at(w, h, p, t, c);
-        if e == 0 {
-            p = Position(p.0 + size_in(t));
-        } else {
+        let t = W::word(h, p.0);
+        let next = Position(p.0 + size_in(t));
+        if let Some(e) = entry_at::<W>(h, p, t, c) {
             table[m] = e;
             m += 1;
-            p = Position(p.0 + size_in(t));
         }
+        p = next;
     }
     m
 }
 
-// The free items of the pages with k live items, of the m in the table, go to the head of their list, from the last to the first.
-fn push_level(w: usize, h: &mut [u8], c: usize, table: &[usize], m: usize, k: usize)
-    requires { LevelReady w h.old c table.now m }
-    ensures { LevelPushed w h.old c table.now m k h.new }
+// The free items of the pages with k live items, of those in the table, go to the head of their list, from the last to the first.
+fn push_level<W: Width>(h: &mut [u8], c: usize, table: &[usize], k: usize)
+    requires { LevelReady W.BYTES h.old c table.now }
+    ensures { LevelPushed W.BYTES h.old c table.now k h.new }
 {
-    let mut i = m;
-    while i != 0 {
-        let j = i - 1;
-        let e = table[j];
+    for i in (0..table.len()).rev() {
+        let e = table[i];
         if live_in(e) == k {
-            push_page(w, h, page_in(e), c);
-            i = j;
-        } else {
-            i = j;
+            push_page::<W>(h, page_in(e), c);
         }
     }
 }
 
-// The least number of live items from k on that one of the table's first m pages has, below most; most where none has.
-fn next_level(table: &[usize], m: usize, k: usize, most: usize) -> usize
-    requires { (m ≤ length table.now) × (k ≤ most) }
-    ensures { NextLevel table.now m k most result }
+// The least number of live items from k on that one of the table's pages has, below most; most where none has.
+fn next_level(table: &[usize], k: usize, most: usize) -> usize
+    requires { k ≤ most }
+    ensures { NextLevel table.now k most result }
 {
     let mut next = most;
-    let mut i = 0;
-    while i < m {
-        let live = live_in(table[i]);
-        i += 1;
-        if k <= live {
-            if live < next {
-                next = live;
-            }
+    for e in table {
+        let live = live_in(*e);
+        if k <= live && live < next {
+            next = live;
         }
     }
     next
 }
 
 // The free items of all pages in the table go to the head of their list: first those of pages with no live item, which so come last.
-fn push_levels(w: usize, h: &mut [u8], c: usize, table: &[usize], m: usize)
-    requires { LevelReady w h.old c table.now m }
-    ensures { LevelsPushed w h.old c table.now m h.new }
+fn push_levels<W: Width>(h: &mut [u8], c: usize, table: &[usize])
+    requires { LevelReady W.BYTES h.old c table.now }
+    ensures { LevelsPushed W.BYTES h.old c table.now h.new }
 {
-    let most = items_in_page(w, c);
-    // Pages with `most` live items have no free one.
-    let mut k = next_level(table, m, 0, most);
+    let most = items_in_page::<W>(c);
+    // Pages with `most` live items have no free one. No range: most levels have no page, and are passed over.
+    let mut k = next_level(table, 0, most);
     while k < most {
-        push_level(w, h, c, table, m, k);
-        k = next_level(table, m, k + 1, most);
+        push_level::<W>(h, c, table, k);
+        k = next_level(table, k + 1, most);
     }
 }
 
 // The list of class c is linked anew: its head is set to 0, and its free items are put before that. What it named still follows, and is of no account.
-fn link_class(w: usize, h: &mut [u8], c: usize, table: &mut [usize])
-    requires class_ready { ClassReady w h.old c }
-    requires roomy { Roomy w (length h.old) (length table.old) }
-    ensures { ClassLinked w h.old c h.new }
+fn link_class<W: Width>(h: &mut [u8], c: usize, table: &mut [usize])
+    requires class_ready { ClassReady W.BYTES h.old c }
+    requires roomy { Roomy W.BYTES (length h.old) (length table.old) }
+    ensures { ClassLinked W.BYTES h.old c h.new }
 {
-    let m = gather(w, h, c, table);
-    put_word(w, h, head_at(w, c).0, 0);
-    push_levels(w, h, c, table, m);
+    let m = gather::<W>(h, c, table);
+    W::put_word(h, head_at::<W>(c).0, 0);
+    push_levels::<W>(h, c, &table[..m]);
 }
 
 // The first class whose list is not empty; as many as there are classes where all are.
-fn first_listed(w: usize, h: &[u8]) -> usize
-    requires { LinkReady w h.now }
-    ensures { EmptyBelow w h.now result }
+fn first_listed<W: Width>(h: &[u8]) -> usize
+    requires { LinkReady W.BYTES h.now }
+    ensures { EmptyBelow W.BYTES h.now result }
 {
-    let n = classes(w);
-    let mut c = 0;
-    while c < n {
-        if word(w, h, head_at(w, c).0) != 0 {
+    for c in 0..classes::<W>() {
+        if W::word(h, head_at::<W>(c).0) != 0 {
             return c;
         }
-        c += 1;
     }
-    c
+    classes::<W>()
 }
 
 // The lists of class `from` and of those behind it are linked anew. One that is empty stays so: its class has no free item, and a walk over the blocks is spared.
-fn link_classes(w: usize, h: &mut [u8], from: usize, table: &mut [usize])
-    requires link_ready { LinkReady w h.old × EmptyBelow w h.old from }
-    requires roomy { Roomy w (length h.old) (length table.old) }
-    ensures { Linked w h.old h.new }
+fn link_classes<W: Width>(h: &mut [u8], from: usize, table: &mut [usize])
+    requires link_ready { LinkReady W.BYTES h.old × EmptyBelow W.BYTES h.old from }
+    requires roomy { Roomy W.BYTES (length h.old) (length table.old) }
+    ensures { Linked W.BYTES h.old h.new }
 {
-    let n = classes(w);
-    let mut c = from;
-    while c < n {
-        let head = head_at(w, c);
-        if word(w, h, head.0) == 0 {
-            c += 1;
-        } else {
-            link_class(w, h, c, table);
-            c += 1;
+    for c in from..classes::<W>() {
+        let head = head_at::<W>(c);
+        if W::word(h, head.0) != 0 {
+            link_class::<W>(h, c, table);
         }
     }
 }
 
 // Whether a table of n entries is enough for a heap of so many bytes. Where it is for the longest one, nothing is left to ask of this one.
-fn is_roomy(w: usize, bytes: usize, n: usize) -> bool
-    requires { (bytes ≤ (shape w).most) × (n < 2 ^ 32) }
-    ensures { (result ≡ true → Roomy w bytes n) × (Roomy w bytes n → result ≡ true) }
+fn is_roomy<W: Width>(bytes: usize, n: usize) -> bool
+    requires { (bytes ≤ (shape W.BYTES).most) × (n < 2 ^ 32) }
+    ensures { (result ≡ true → Roomy W.BYTES bytes n) × (Roomy W.BYTES bytes n → result ≡ true) }
 {
-    if longest(w) <= paged_bytes(w, n) {
-        return true;
-    }
-    bytes <= paged_bytes(w, n)
+    longest::<W>() <= paged_bytes::<W>(n) || bytes <= paged_bytes::<W>(n)
 }
 
-// Every class's list is linked anew. A table is made where there is a list, and as long as this heap needs: it is cleared first.
-pub fn link_anew(w: usize, h: &mut [u8])
-    requires { LinkReady w h.old }
-    ensures { Linked w h.old h.new }
+// The same, with a table of N entries, which is cleared first.
+fn link_with<W: Width, const N: usize>(h: &mut [u8], from: usize)
+    requires link_ready { LinkReady W.BYTES h.old × EmptyBelow W.BYTES h.old from }
+    requires roomy { Roomy W.BYTES (length h.old) N }
+    requires small { N < 2 ^ 32 }
+    ensures { Linked W.BYTES h.old h.new }
 {
-    let from = first_listed(w, h);
-    if from == classes(w) {
+    let mut table = [0; N];
+    link_classes::<W>(h, from, &mut table);
+}
+
+// Every class's list is linked anew. A table is made where there is a list, and as long as this heap needs.
+pub fn link_anew<W: Width>(h: &mut [u8])
+    requires { LinkReady W.BYTES h.old }
+    ensures { Linked W.BYTES h.old h.new }
+{
+    let from = first_listed::<W>(h);
+    if from == classes::<W>() {
         return;
     }
-    if is_roomy(w, h.len(), FEW_PAGES) {
-        let mut table = [0usize; FEW_PAGES];
-        return link_classes(w, h, from, &mut table);
+    if is_roomy::<W>(h.len(), FEW_PAGES) {
+        link_with::<W, FEW_PAGES>(h, from)
+    } else if is_roomy::<W>(h.len(), MORE_PAGES) {
+        link_with::<W, MORE_PAGES>(h, from)
+    } else {
+        link_with::<W, MOST_PAGES>(h, from)
     }
-    if is_roomy(w, h.len(), MORE_PAGES) {
-        let mut table = [0usize; MORE_PAGES];
-        return link_classes(w, h, from, &mut table);
-    }
-    let mut table = [0usize; MOST_PAGES];
-    link_classes(w, h, from, &mut table);
 }

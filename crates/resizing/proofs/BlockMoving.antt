@@ -1,9 +1,5 @@
 -- A variable block moves: it is found again after the allocation, and given back.
-use Prim.Native.Nat.{ℕ, ◌-◌, ◌*◌}
-use mathlib.Core.Path.{◌≡◌, sym, ap, ◌∙◌}
-use mathlib.Core.List.{List}
-use native.Mathlib.Omega.{arith}
-use lib.ListN.{length}
+use Rattle.std.proofs.Common.{ℕ, ◌-◌, ◌*◌, ◌≡◌, sym, ap, ◌∙◌, List, arith, length, Option, Some, Ok}
 use Rattle.words.specs.Word.{word_at}
 use Rattle.model.specs.declared.Address.{Address}
 use Rattle.model.specs.Shape.{shape, end_of, start}
@@ -17,9 +13,6 @@ use Rattle.model.proofs.walks.Finding.{block_found}
 use Rattle.model.proofs.blocks.Mending.{allocate_mends}
 use Rattle.model.specs.inner.Walks.{flag, Stands, Mend}
 use Rattle.find.specs.declared.UsedBlock.{UsedBlock}
-use Rattle.engine.specs.declared.allocate.Taken.{Taken}
-use Rattle.engine.specs.declared.allocate.Taken.TheVariants.{At}
-use Rattle.resizing.specs.declared.resize.Resized.TheVariants as to
 use Rattle.engine.specs.Allocate.{Asked}
 use Rattle.find.specs.Find.{BlockFound}
 use Rattle.releasing.specs.Release.{BlockIn, GivenBack}
@@ -30,7 +23,7 @@ use Rattle.moving.specs.Mend.{BlockLiveAt, Mendable, Mended}
 use Rattle.resizing.proofs.ResizeLaws.{chosen, carried_in, moved_to, block_holds}
 use Rattle.moving.proofs.MendLaws.{found_stands, stands_found, read_before}
 
-module _ {w : ℕ} {b : List ℕ} {a n : ℕ} {x : UsedBlock} (i : BlockLiveAt w b a x) {t : Taken} {c : List ℕ} (g : Carried w b a (x.size - 2 * w) n t c) (s : Asked w n) (new : Address) (e : t ≡ At new) (r before : ℕ) (er : r ≡ back_of (shape w) b x.prev.0) (eb : before ≡ word_at w b r) where
+module _ {w : ℕ} {b : List ℕ} {a n : ℕ} {x : UsedBlock} (i : BlockLiveAt w b a x) {t : Option Address} {c : List ℕ} (g : Carried w b a (x.size - 2 * w) n t c) (s : Asked w n) (new : Address) (e : t ≡ Some new) (r before : ℕ) (er : r ≡ back_of (shape w) b x.prev.0) (eb : before ≡ word_at w b r) where
   after : (L : Layout) → Here (shape w) b L → Layout
   after L h = (chosen g (block_holds i) s new e L h).0.layout
 
@@ -61,7 +54,7 @@ module _ {w : ℕ} {b : List ℕ} {a n : ℕ} {x : UsedBlock} (i : BlockLiveAt w
         let h = i.ready.sound.here in
         live_used (record { width = i.ready.width; layout = after L h; here = here_after L h; short = rw l i.ready.short; address = a; spot = (again L h).0; found = (again L h).1 })
 
-    pub given_back : (d : List ℕ) → GivenBack w c y d → ByWay w moving b a n (to.To new) d
+    pub given_back : (d : List ℕ) → GivenBack w c y d → ByWay w moving b a n (Ok new) d
     unfolding after
     given_back d z =
         moved_to g (block_holds i) s new e d (λ L h.

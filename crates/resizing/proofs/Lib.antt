@@ -1,2 +1,2 @@
 mod BlockMoving
-mod ResizeLaws
+pub mod ResizeLaws

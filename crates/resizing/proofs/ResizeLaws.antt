@@ -1,14 +1,8 @@
 -- Resize: what each way through the call shows.
-use Prim.Native.Nat.{ℕ, ◌-◌, ◌*◌, ◌≤◌, ◌<◌, min}
-use mathlib.Core.Path.{◌≡◌, refl, sym, ap, subst, ◌∙◌}
-use mathlib.Core.Bool.{Bool, true, false, cond}
-use mathlib.Core.List.{List}
-use mathlib.Core.Option.{Option, none, some}
-use native.Mathlib.Omega.{arith}
-use native.Mathlib.Decide.{ℕ_discrete}
-use borrow.Author.Tests.{eq-eqb, ne_eqb}
-use lib.ListN.{length}
-use lib.Dec.{leb}
+use Rattle.std.proofs.lemmas.Result.{err_from_is_err_and}
+use Rattle.std.proofs.Common.{ok_or, IsErrAnd, is_err, true≢false, ℕ, ◌-◌, ◌*◌, ◌≤◌, ◌<◌, min, ◌≡◌, refl, sym, ap, ◌∙◌, Bool, true, false, cond, List, Option, Some, None, Result, Ok, Err, arith, le-leb, length, leb}
+use Rattle.std.proofs.Math.Option.{Option as Given, none, some}
+use Rattle.std.proofs.lemmas.Bool.{lt-leb}
 use Rattle.words.proofs.YesNo.{yes_no}
 use Rattle.words.specs.Copy.{copied}
 use Rattle.model.specs.declared.Address.{Address}
@@ -28,12 +22,10 @@ use Rattle.model.proofs.items.ItemPlaces.{allocate_still}
 use Rattle.model.proofs.lives.Moving.{taken_large, item_again}
 use Rattle.model.proofs.blocks.Resizing.{item_stays, item_moves, small_moves}
 use Rattle.find.specs.declared.UsedBlock.{UsedBlock}
-use Rattle.find.specs.declared.Live.{Live}
-use Rattle.find.specs.declared.Live.TheVariants.{Nothing, Item, Variable}
-use Rattle.engine.specs.declared.allocate.Taken.{Taken}
-use Rattle.engine.specs.declared.allocate.Taken.TheVariants.{At, NoRoom}
-use Rattle.resizing.specs.declared.resize.Resized.{Resized}
-use Rattle.resizing.specs.declared.resize.Resized.TheVariants as to
+use Rattle.find.specs.declared.Live.TheVariants.{Item, Variable}
+use Rattle.model.specs.declared.refusals.Refusal.{Refusal}
+use Rattle.model.specs.declared.refusals.Refusal.TheVariants as refusal
+use Rattle.holding.proofs.HoldingLaws.{measured_some}
 use Rattle.engine.specs.Ready.{Ready}
 use Rattle.find.specs.Find.{Finds}
 use Rattle.engine.specs.Allocate.{Asked}
@@ -44,7 +36,7 @@ use Rattle.releasing.specs.Release.{BlockLive}
 use Rattle.reshaping.specs.Reshape.{Stays, Reshaped}
 use Rattle.moving.specs.Move.{Holding, Carried}
 use Rattle.moving.specs.Mend.{BlockLiveAt}
-use Rattle.resizing.specs.Ways.{ItemLiveAt, outcome_of, kept_as, ByWay}
+use Rattle.resizing.specs.Ways.{ItemLiveAt, ByWay}
 use Rattle.moving.proofs.MoveLaws.{taken_none, taken_some, old_live}
 
 not_nothing_item : (o c k : ℕ) → thing o c k ≡ nothing → ⊥
@@ -57,9 +49,22 @@ not_nothing_block t e = let z : ◌≡◌ {A = ℕ} 0 1 = cc in omega arith
 by_live : (w : ℕ) (b : List ℕ) (a n : ℕ) (L : Layout) → (find (shape w) a L ≡ nothing → ⊥) → (v : Way) → heap_resized (shape w) v b a n L ≡ heap_way (shape w) v b a n L
 by_live w b a n L live v = heap_there (shape w) b a n L v (there_is (find (shape w) a L) live)
 
+reason : {A : Type 0} → Result A Refusal → Refusal
+reason (Ok x) = refusal.NoRoom
+reason (Err k) = k
+
+-- what a `?` on an `ok_or` returns where there is nothing
+pub exits : {A B : Type 0} {o : Option A} {r : Result B Refusal} {k e : Refusal} → Err k ≡ ok_or o e → IsErrAnd r (λ j. j ≡ k) → (o ≡ None) × (r ≡ Err e)
+unfolding reason
+exits {o = None} {r} {k} {e} v x = let p = err_from_is_err_and r x in (refl, p.1 ∙ ap Err (p.2 ∙ ap reason v))
+exits {o = Some y} v x = absurd (ok-err v)
+  where
+    ok-err : {A : Type 0} {y : A} {k : Refusal} → ◌≡◌ {A = Result A Refusal} (Err k) (Ok y) → ⊥
+    ok-err f = true≢false (ap is_err f)
+
 -- a move that found no room, and one that did
-module _ {w : ℕ} {b : List ℕ} {a k n : ℕ} {t : Taken} {c : List ℕ} (g : Carried w b a k n t c) where
-  pub moved_nowhere : Holding w b a k → t ≡ NoRoom → ByWay w moving b a n to.NoRoom c
+module _ {w : ℕ} {b : List ℕ} {a k n : ℕ} {t : Option Address} {c : List ℕ} (g : Carried w b a k n t c) where
+  pub moved_nowhere : Holding w b a k → t ≡ None → ByWay w moving b a n (Err refusal.NoRoom) c
   moved_nowhere q e =
       record {
         is = λ L h.
@@ -69,7 +74,7 @@ module _ {w : ℕ} {b : List ℕ} {a k n : ℕ} {t : Taken} {c : List ℕ} (g : 
             rw (by_live w b a n L (q.live L h) moving, o, ec) refl;
       }
 
-  module _ (q : Holding w b a k) (s : Asked w n) (x : Address) (e : t ≡ At x) where
+  module _ (q : Holding w b a k) (s : Asked w n) (x : Address) (e : t ≡ Some x) where
     pub chosen : (L : Layout) → Here (shape w) b L → (m : Made) × (allocate (shape w) n L ≡ some m) × (x.0 ≡ m.at)
     chosen L h = taken_some (allocate (shape w) n L) x (sym e ∙ (g.is L h).answer)
 
@@ -77,7 +82,7 @@ module _ {w : ℕ} {b : List ℕ} {a k n : ℕ} {t : Taken} {c : List ℕ} (g : 
     carried_in L h = rw (chosen L h).1 at (g.is L h).here
 
     -- the old place given back in the copied heap is the rule's last step
-    pub moved_to : (d : List ℕ) → ((L : Layout) (h : Here (shape w) b L) → d ≡ drawn (shape w) (without (shape w) a (chosen L h).0.layout) c) → ByWay w moving b a n (to.To x) d
+    pub moved_to : (d : List ℕ) → ((L : Layout) (h : Here (shape w) b L) → d ≡ drawn (shape w) (without (shape w) a (chosen L h).0.layout) c) → ByWay w moving b a n (Ok x) d
     moved_to d f =
         record {
           is = λ L h.
@@ -85,12 +90,12 @@ module _ {w : ℕ} {b : List ℕ} {a k n : ℕ} {t : Taken} {c : List ℕ} (g : 
               let ec : c ≡ copied a m.0.at (min k n) (drawn (shape w) m.0.layout b) = rw m.1 at (g.is L h).bytes in
               let ek : c ≡ copied a m.0.at (min (shown_of (shape w) (find (shape w) a L)) n) (drawn (shape w) m.0.layout b) = ec ∙ ap (λ (y : ℕ). copied a m.0.at (min y n) (drawn (shape w) m.0.layout b)) (q.shown L h) in
               let all : d ≡ moved_bytes (shape w) b a n L m.0 = f L h ∙ ap (λ (y : List ℕ). drawn (shape w) (without (shape w) a m.0.layout) y) ek in
-              ap (λ (y : ℕ). granted y d) m.2 ∙ ap (λ (y : List ℕ). granted m.0.at y) all ∙ ap (λ (o : Option Made). made (shape w) b o (moved_bytes (shape w) b a n L)) (sym m.1) ∙ sym (by_live w b a n L (q.live L h) moving);
+              ap (λ (y : ℕ). granted y d) m.2 ∙ ap (λ (y : List ℕ). granted m.0.at y) all ∙ ap (λ (o : Given Made). made (shape w) b o (moved_bytes (shape w) b a n L)) (sym m.1) ∙ sym (by_live w b a n L (q.live L h) moving);
         }
 
 -- in place, and not
 module _ (w : ℕ) (b : List ℕ) (a n : ℕ) (L : Layout) (live : find (shape w) a L ≡ nothing → ⊥) where
-  as_placed : (o : Option Layout) → stays (shape w) n (find (shape w) a L) L ≡ o → placed (shape w) b a o ≡ heap_resized (shape w) staying b a n L
+  as_placed : (o : Given Layout) → stays (shape w) n (find (shape w) a L) L ≡ o → placed (shape w) b a o ≡ heap_resized (shape w) staying b a n L
   as_placed o s = rw (sym s) (sym (by_live w b a n L live staying))
 
   remains : (c : List ℕ) (M : Layout) → stays (shape w) n (find (shape w) a L) L ≡ some M → c ≡ drawn (shape w) M b → granted a c ≡ heap_resized (shape w) staying b a n L
@@ -116,7 +121,7 @@ module _ {w : ℕ} {b : List ℕ} {a q c k : ℕ} (i : ItemLiveAt w b a q c k) w
       let h = i.ready.sound.here in
       record { width = i.ready.width; layout = L; here = h; short = i.ready.short; low = i.low; address = a; asked = k; found = i.is L h }
 
-  pub same_class : {n : ℕ} → class_of n ≡ c → (d : List ℕ) → RenewedItem w b q c n d → ByWay w staying b a n (to.To (record { 0 = a })) d
+  pub same_class : {n : ℕ} → class_of n ≡ c → (d : List ℕ) → RenewedItem w b q c n d → ByWay w staying b a n (Ok (record { 0 = a })) d
   same_class {n} e d r =
       record {
         is = λ L h.
@@ -125,14 +130,14 @@ module _ {w : ℕ} {b : List ℕ} {a q c k : ℕ} (i : ItemLiveAt w b a q c k) w
             remains w b a n L (is_live L h) d (renewed (shape w) n (offset_of (shape w) q) L) s (r.draws L a k h (i.is L h));
       }
 
-  pub other_class : {n : ℕ} (j : ℕ) → j ≡ class_of n → (j ≡ c → ⊥) → ByWay w staying b a n to.NoRoom b
+  pub other_class : {n : ℕ} (j : ℕ) → j ≡ class_of n → (j ≡ c → ⊥) → ByWay w staying b a n (Err refusal.NoRoom) b
   other_class {n} j e f =
       record {
         is = λ L h.
             as_placed w b a n L (is_live L h) none (ap (λ (y : Found). stays (shape w) n y L) (i.is L h) ∙ item_moves (shape w) n (offset_of (shape w) q) c k L (λ z. f (e ∙ z)));
       }
 
-  module _ {n : ℕ} {t : Taken} {d : List ℕ} (g : Carried w b a (item_shown (shape w) c k) n t d) (s : Asked w n) (x : Address) (e : t ≡ At x) where
+  module _ {n : ℕ} {t : Option Address} {d : List ℕ} (g : Carried w b a (item_shown (shape w) c k) n t d) (s : Asked w n) (x : Address) (e : t ≡ Some x) where
     again : (L : Layout) (h : Here (shape w) b L) → (m : ℕ) × (find (shape w) a (chosen g item_holds s x e L h).0.layout ≡ thing (offset_of (shape w) q) c m)
     again L h =
         let m = chosen g item_holds s x e L h in
@@ -148,7 +153,7 @@ module _ {w : ℕ} {b : List ℕ} {a q c k : ℕ} (i : ItemLiveAt w b a q c k) w
         let h = i.ready.sound.here in
         live_in (record { width = i.ready.width; layout = (chosen g item_holds s x e L h).0.layout; here = carried_in g item_holds s x e L h; short = rw l i.ready.short; low = i.low; address = a; asked = (again L h).0; found = (again L h).1 })
 
-    pub item_gone : (d' : List ℕ) → GaveItem w d q c d' → ByWay w moving b a n (to.To x) d'
+    pub item_gone : (d' : List ℕ) → GaveItem w d q c d' → ByWay w moving b a n (Ok x) d'
     item_gone d' v =
         moved_to g item_holds s x e d' (λ L h.
         gave_draws i.ready.width i.low v (chosen g item_holds s x e L h).0.layout a (again L h).0 (carried_in g item_holds s x e L h) (again L h).1
@@ -179,7 +184,7 @@ module _ {w : ℕ} {b : List ℕ} {a : ℕ} {x : UsedBlock} (i : BlockLiveAt w b
       let h = i.ready.sound.here in
       record { width = i.ready.width; layout = L; here = h; short = i.ready.short; address = a; spot = (i.is L h).0; found = (i.is L h).1 }
 
-  pub too_small : {n : ℕ} → n ≤ largest_item (shape w) → ByWay w staying b a n to.NoRoom b
+  pub too_small : {n : ℕ} → n ≤ largest_item (shape w) → ByWay w staying b a n (Err refusal.NoRoom) b
   too_small {n} l =
       record {
         is = λ L h. as_placed w b a n L (block_is_live L h) none (ap (λ (y : Found). stays (shape w) n y L) (i.is L h).1.found ∙ small_moves (shape w) n (i.is L h).0 L l);
@@ -189,45 +194,45 @@ module _ {w : ℕ} {b : List ℕ} {a : ℕ} {x : UsedBlock} (i : BlockLiveAt w b
     told : (L : Layout) (h : Here (shape w) b L) → Stays w b L (stays (shape w) n (find (shape w) a L) L) r c
     told L h = let v = i.is L h in rw v.1.found (g.is L a v.0 h v.1)
 
-    pub reshaped_there : r ≡ true → ByWay w staying b a n (to.To (record { 0 = a })) c
+    pub reshaped_there : r ≡ true → ByWay w staying b a n (Ok (record { 0 = a })) c
     reshaped_there e = record { is = λ L h. go L h (stays (shape w) n (find (shape w) a L) L) refl (told L h) }
       where
-        go : (L : Layout) (h : Here (shape w) b L) (o : Option Layout) → stays (shape w) n (find (shape w) a L) L ≡ o → Stays w b L o r c → granted a c ≡ heap_resized (shape w) staying b a n L
+        go : (L : Layout) (h : Here (shape w) b L) (o : Given Layout) → stays (shape w) n (find (shape w) a L) L ≡ o → Stays w b L o r c → granted a c ≡ heap_resized (shape w) staying b a n L
         go L h none s v = absurd (yes_no (sym e ∙ v.answer))
         go L h (some M) s v = remains w b a n L (block_is_live L h) c M s v.bytes
 
-    pub not_reshaped : r ≡ false → ByWay w staying b a n to.NoRoom c
+    pub not_reshaped : r ≡ false → ByWay w staying b a n (Err refusal.NoRoom) c
     not_reshaped e = record { is = λ L h. go L h (stays (shape w) n (find (shape w) a L) L) refl (told L h) }
       where
-        go : (L : Layout) (h : Here (shape w) b L) (o : Option Layout) → stays (shape w) n (find (shape w) a L) L ≡ o → Stays w b L o r c → refused c no_room ≡ heap_resized (shape w) staying b a n L
+        go : (L : Layout) (h : Here (shape w) b L) (o : Given Layout) → stays (shape w) n (find (shape w) a L) L ≡ o → Stays w b L o r c → refused c no_room ≡ heap_resized (shape w) staying b a n L
         go L h none s v = ap (λ (y : List ℕ). refused y no_room) v.bytes ∙ as_placed w b a n L (block_is_live L h) none s
         go L h (some M) s v = absurd (yes_no (sym v.answer ∙ e))
 
 -- what is found
-module _ {w : ℕ} (b : List ℕ) (a : ℕ) (k : Ready w b) (x : Live) (f : (L : Layout) → Here (shape w) b L → Finds w L a x) where
-  found_as : (y : Live) → x ≡ y → (L : Layout) → Here (shape w) b L → Finds w L a y
-  found_as y e L h = subst (λ (z : Live). Finds w L a z) e (f L h)
-
-  pub nothing_live : {v : Way} {n : ℕ} → x ≡ Nothing → ByWay w v b a n to.NotLive b
+module _ {w : ℕ} {b : List ℕ} (a : ℕ) (k : Ready w b) where
+  pub nothing_live : (v : Way) (n : ℕ) → ((L : Layout) → Here (shape w) b L → Finds w L a None) → ByWay w v b a n (Err refusal.NotLive) b
   unfolding Finds
-  nothing_live {v} {n} e = record { is = λ L h. sym (heap_nowhere (shape w) b a n L v (found_as Nothing e L h)) }
+  nothing_live v n f = record { is = λ L h. sym (heap_nowhere (shape w) b a n L v (f L h)) }
 
-  pub item_at_is : (q : Position) (c n : ℕ) → x ≡ Item q c n → ItemLiveAt w b a q.0 c n
+  pub item_at_is : (q : Position) (c n : ℕ) → ((L : Layout) → Here (shape w) b L → Finds w L a (Some (Item q c n))) → ItemLiveAt w b a q.0 c n
   unfolding Finds
-  item_at_is q c n e = record { ready = k; low = (found_as (Item q c n) e k.sound.layout k.sound.here).0; is = λ L h. (found_as (Item q c n) e L h).1 }
+  item_at_is q c n f = record { ready = k; low = (f k.sound.layout k.sound.here).0; is = λ L h. (f L h).1 }
 
-  pub block_at : (y : UsedBlock) → x ≡ Variable y → BlockLiveAt w b a y
+  pub block_at : (y : UsedBlock) → ((L : Layout) → Here (shape w) b L → Finds w L a (Some (Variable y))) → BlockLiveAt w b a y
   unfolding Finds
-  block_at y e = record { ready = k; is = λ L h. found_as (Variable y) e L h }
+  block_at y f = record { ready = k; is = f }
 
 -- as it is
-pub keeps : {w : ℕ} (b : List ℕ) (a : Address) (n has : ℕ) (r : Resized) → Holds w (capacity (shape w)) b a.0 has → r ≡ kept_as a has n → ByWay w keeping b a.0 n r b
-keeps {w} b a n has r k e = record { is = λ L h. ap (λ (x : Resized). outcome_of x b) e ∙ go L h (ℕ_discrete has 0) }
-  where
-    choose : (y : Bool) → outcome_of (cond y (to.To a) to.NoRoom) b ≡ cond y (granted a.0 b) (refused b no_room)
-    choose true = refl
-    choose false = refl
+module _ {w : ℕ} (b : List ℕ) (a n : ℕ) where
+  pub keeps_none : Holds w (capacity (shape w)) b a None → ByWay w keeping b a n (Err refusal.NotLive) b
+  keeps_none k = record { is = λ L h. sym (heap_nowhere (shape w) b a n L keeping (k.none refl L h)) }
 
-    go : (L : Layout) → Here (shape w) b L → Dec (has ≡ 0) → outcome_of (kept_as a has n) b ≡ heap_resized (shape w) keeping b a.0 n L
-    go L h (yes z) = rw (eq-eqb has 0 z) (sym (heap_nowhere (shape w) b a.0 n L keeping (k.none z L h)))
-    go L h (no z) = rw (ne_eqb has 0 z, by_live w b a.0 n L (λ f. z (k.answer L h ∙ ap (capacity (shape w)) f)) keeping, sym (k.answer L h)) (choose (leb n has))
+  module _ (has : ℕ) (k : Holds w (capacity (shape w)) b a (Some has)) where
+    kept_as : (L : Layout) → Here (shape w) b L → heap_resized (shape w) keeping b a n L ≡ cond (leb n has) (granted a b) (refused b no_room)
+    kept_as L h = let m = measured_some (capacity (shape w)) (find (shape w) a L) has (sym (k.answer L h)) in rw (by_live w b a n L m.1 keeping, m.0) refl
+
+    pub keeps : n ≤ has → ByWay w keeping b a n (Ok (record { 0 = a })) b
+    keeps l = record { is = λ L h. rw (kept_as L h, le-leb n has l) refl }
+
+    pub keeps_not : has < n → ByWay w keeping b a n (Err refusal.NoRoom) b
+    keeps_not l = record { is = λ L h. rw (kept_as L h, lt-leb n has l) refl }

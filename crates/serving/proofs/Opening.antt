@@ -1,11 +1,5 @@
 -- Initialise: what each way through the call shows of its contract.
-use Prim.Native.Nat.{ℕ, ◌-◌}
-use mathlib.Core.Path.{◌≡◌, refl, sym, ap, subst, ◌∙◌}
-use mathlib.Core.Bool.{Bool, true, false}
-use mathlib.Core.List.{List, ◌++◌}
-use native.Mathlib.Omega.{arith}
-use lib.ListN.{length, take, drop}
-use lib.Seq.{length-take-le}
+use Rattle.std.proofs.Common.{ℕ, ◌-◌, ◌≡◌, refl, sym, ap, subst, ◌∙◌, Bool, true, false, List, ◌++◌, arith, length, take, drop, length-take-le}
 use Rattle.words.specs.Word.{word_at, put}
 use Rattle.model.specs.Shape.{shape, end_of}
 use Rattle.model.specs.Parts.{magic_bytes}

@@ -1,10 +1,5 @@
--- What a verdict of "fine" gives to the calls behind it: the heap in the buffer, and a size, that they may work on.
-use Prim.Native.Nat.{ℕ, ◌-◌, ◌≤◌}
-use mathlib.Core.Path.{◌≡◌, sym, ap, subst}
-use mathlib.Core.List.{List}
-use native.Mathlib.Omega.{arith}
-use lib.ListN.{length, take}
-use lib.Seq.{length-take-le}
+-- What an examination that refuses nothing gives to the calls behind it: the heap in the buffer, and a size, that they may work on.
+use Rattle.std.proofs.Common.{ℕ, ◌-◌, ◌≤◌, ◌≡◌, sym, ap, subst, List, arith, length, take, length-take-le, Result, Ok}
 use Rattle.words.specs.Width.{Width}
 use Rattle.model.specs.Shape.{shape, start}
 use Rattle.model.specs.Layout.{Layout}
@@ -14,30 +9,26 @@ use Rattle.model.proofs.rules.Ready.{own_lent}
 use Rattle.engine.specs.Allocate.{Asked}
 use Rattle.engine.specs.Ready.{Ready}
 use Rattle.growing.specs.Growing.{Holding}
-use Rattle.examining.specs.declared.Verdict.{Verdict}
-use Rattle.examining.specs.declared.Verdict.TheVariants.{Fine}
+use Rattle.model.specs.declared.refusals.Refusal.{Refusal}
 use Rattle.examining.specs.Examined.{Examined, ExaminedFor}
 use Rattle.examining.proofs.Examining.{fine_heap, fine_for}
 
 module _ {w : ℕ} (wd : Width w) (b : List ℕ) where
-  pub holding : (v : Verdict) → Examined w b v → v ≡ Fine → Holding w b
+  pub holding : (v : Result (List ℕ) Refusal) {o : List ℕ} → Examined w b v → v ≡ Ok o → Holding w b
   holding v x e = let y = fine_heap w b v x e in record { width = wd; lent = y.0; sound = y.1 }
 
-  pub holding_for : (n : ℕ) (v : Verdict) → ExaminedFor w b n v → v ≡ Fine → Holding w b × Asked w n
+  pub holding_for : (n : ℕ) (v : Result (List ℕ) Refusal) {o : List ℕ} → ExaminedFor w b n v → v ≡ Ok o → Holding w b × Asked w n
   holding_for n v x e =
       let y = fine_for w b n v x e in
-      (record { width = wd; lent = y.0; sound = y.1 }, record { some_byte = y.2.0; most = y.2.1 })
+      (record { width = wd; lent = y.0.0.0; sound = y.0.0.1 }, record { some_byte = y.1.0; most = y.1.1 })
 
   -- its end, and its own bytes
   module _ (x : Holding w b) where
-    pub may_read_end : Width w × (start (shape w) ≤ length b)
-    may_read_end = (wd, omega (arith, own_start (shape w) b x.sound.layout x.sound.here, x.sound.here.ended.1))
+    pub may_read_end : start (shape w) ≤ length b
+    may_read_end = omega (arith, own_start (shape w) b x.sound.layout x.sound.here, x.sound.here.ended.1)
 
     pub end_within : (end : ℕ) → end ≡ stored_end (shape w) b → end ≤ length b
     end_within end k = omega (arith, k, x.sound.here.ended.1)
-
-    pub may_take : Width w × (start (shape w) ≤ length b) × (stored_end (shape w) b ≤ length b)
-    may_take = (wd, may_read_end.1, end_within (stored_end (shape w) b) (omega arith))
 
     own_ready : Ready w (heap_of (shape w) b)
     own_ready = record { width = wd; sound = record { layout = x.sound.layout; here = x.sound.here.here }; short = (own_lent wd b x.sound.layout x.lent x.sound.here).1 }

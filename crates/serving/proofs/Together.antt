@@ -1,10 +1,6 @@
 -- The reading calls that stand side by side: an answer, and its refusal number, are together what document 01 says.
-use Prim.Native.Nat.{ℕ, zero, suc, ◌+◌, ◌≤◌}
-use mathlib.Core.Path.{◌≡◌, refl, sym, ap, ap₂, ◌∙◌}
-use mathlib.Core.List.{List, [], ◌∷◌, ◌++◌}
-use native.Mathlib.Omega.{arith}
-use native.Mathlib.Decide.{ℕ_discrete, dec_le}
-use lib.ListN.{length, take, drop}
+use Rattle.std.proofs.Common.{ℕ, zero, suc, ◌+◌, ◌≤◌, ◌≡◌, refl, sym, ap, ap₂, ◌∙◌, List, [], ◌∷◌, ◌++◌, arith, length, take, drop, Result}
+use Rattle.std.proofs.Math.Decide.{ℕ_discrete, dec_le}
 use Rattle.words.specs.Width.{Width}
 use Rattle.model.specs.Shape.{shape, least_free, end_of}
 use Rattle.model.specs.Layout.{Block, Layout}
@@ -13,9 +9,10 @@ use Rattle.model.specs.Rules.{Found, block, thing, nothing, find, shown_of}
 use Rattle.model.specs.Reading.{the_end, Statistics, Step, row, rows_from, table, ended, step}
 use Rattle.model.specs.Refusals.{not_live}
 use Rattle.model.specs.Calls.{Told, Lent, Opened, found, LooksUp, Steps, Counts, Tabulates}
+use Rattle.model.specs.declared.refusals.Refusal.{Refusal}
 use Rattle.model.proofs.pictures.Fronts.{own_ends}
 use Rattle.model.proofs.walks.Steps.{step_rises, step_stays}
-use Rattle.serving.specs.Counting.{rows_of, TableTold}
+use Rattle.serving.specs.Counting.{rows_of, told_table, TableTold}
 use Rattle.serving.specs.Lookup.{PartTold, RefusalTold}
 use Rattle.serving.proofs.Answering.{checked_map}
 
@@ -30,19 +27,31 @@ rows_taken zero d bs more = refl
 rows_taken (suc n) d bs more = ap (λ (l : List (List ℕ)). row d bs ∷ l) (rows_taken n (d + 1) bs more)
 
 module _ (w : ℕ) where
+  cut : (bs : List Block) → take (shape w).classes (rows_of w bs) ≡ table (shape w) bs
+  cut bs = rows_taken (shape w).classes 0 bs _
+
   -- the table, with the refusal number beside the statistics: as many rows as there are classes
-  pub tabulates : (b : List ℕ) (s : Told Statistics) (t : List (List ℕ)) → Counts (shape w) b s → TableTold w b t → Tabulates (shape w) b (record { refusal = s.refusal; answer = take (shape w).classes t })
-  tabulates b s t c told =
-      let d = checked_map (take (shape w).classes) told in
+  pub tabulates : (b : List ℕ) (s : Told Statistics) (r : Result (List (List ℕ)) Refusal) → Counts (shape w) b s → TableTold w b r
+      → Tabulates (shape w) b (record { refusal = s.refusal; answer = take (shape w).classes (told_table w r).answer })
+  tabulates b s r c told =
+      let d = checked_map (λ (t : Told (List (List ℕ))). take (shape w).classes t.answer) told in
       record {
         one = λ n. pair (ap (λ (x : Told Statistics). x.refusal) (c.one n)) (d.one n ∙ cut []);
         two = λ l n. pair (ap (λ (x : Told Statistics). x.refusal) (c.two l n)) (d.two l n ∙ cut []);
         three = λ l o n. pair (ap (λ (x : Told Statistics). x.refusal) (c.three l o n)) (d.three l o n ∙ cut []);
         sound = λ l L h. pair (ap (λ (x : Told Statistics). x.refusal) (c.sound l L h)) (d.sound l L h ∙ cut L.blocks);
       }
-    where
-      cut : (bs : List Block) → take (shape w).classes (rows_of w bs) ≡ table (shape w) bs
-      cut bs = rows_taken (shape w).classes 0 bs _
+
+  -- and with its own
+  pub tabulates_alone : (b : List ℕ) (r : Result (List (List ℕ)) Refusal) → TableTold w b r → Tabulates (shape w) b (record { refusal = (told_table w r).refusal; answer = take (shape w).classes (told_table w r).answer })
+  tabulates_alone b r told =
+      let d = checked_map (λ (t : Told (List (List ℕ))). record { refusal = t.refusal; answer = take (shape w).classes t.answer }) told in
+      record {
+        one = λ n. d.one n ∙ pair refl (cut []);
+        two = λ l n. d.two l n ∙ pair refl (cut []);
+        three = λ l o n. d.three l o n ∙ pair refl (cut []);
+        sound = λ l L h. d.sound l L h ∙ pair refl (cut L.blocks);
+      }
 
   -- the part that look-up lends, with its refusal number
   pub looks_up : (b : List ℕ) (a k : ℕ) (p : List ℕ) → RefusalTold w b a k → PartTold w b a p → LooksUp (shape w) b a (record { refusal = k; answer = p })

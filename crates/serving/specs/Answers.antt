@@ -1,34 +1,24 @@
 -- What an answer means: document 01's number, address and bytes.
-use Rattle.std.specs.Prelude.{ℕ, List}
+use Rattle.std.specs.Prelude.{ℕ, List, Result, Ok, Err}
 use Rattle.model.specs.Calls.{Outcome, refused, granted}
-use Rattle.engine.specs.declared.allocate.Taken.{Taken}
-use Rattle.engine.specs.declared.allocate.Taken.TheVariants as taken
-use Rattle.resizing.specs.declared.resize.Resized.{Resized}
-use Rattle.resizing.specs.declared.resize.Resized.TheVariants as resized
-use Rattle.examining.specs.declared.Refusal.TheVariants.{NotLive, NoRoom}
-use Rattle.examining.specs.Examined.{refusal_number}
-use Rattle.serving.specs.declared.Answer.{Answer}
-use Rattle.serving.specs.declared.Answer.TheVariants.{Granted, Refused}
-use Rattle.serving.specs.declared.recovery.Swept.{Swept}
-use Rattle.serving.specs.declared.recovery.Swept.TheVariants as swept
+use Rattle.model.specs.declared.Address.{Address}
+use Rattle.model.specs.declared.refusals.Refusal.{Refusal}
+use Rattle.model.specs.Refused.{refusal_number}
 
--- an answer, and the heap's bytes then, as the outcome that the contracts speak of
+-- what a call that may write answers, and a sweep: the number of pages stands where others have an address
+abbrev pub Answer : Type 0
+Answer = Result Address Refusal
+
+abbrev pub Swept : Type 0
+Swept = Result ℕ Refusal
+
+-- an answer, with the number that f tells of what is granted, and the heap's bytes then, as the outcome that the contracts speak of
+abbrev pub outcome_by : {A : Type 0} → (A → ℕ) → Result A Refusal → List ℕ → Outcome
+outcome_by f (Ok x) b = granted (f x) b
+outcome_by f (Err k) b = refused b (refusal_number k)
+
 abbrev pub outcome : Answer → List ℕ → Outcome
-outcome (Granted a) b = granted a.0 b
-outcome (Refused k) b = refused b (refusal_number k)
+outcome r b = outcome_by (λ a. a.0) r b
 
--- and so a sweep's answer: the number of pages stands where others have an address
 abbrev pub swept_outcome : Swept → List ℕ → Outcome
-swept_outcome (swept.Pages n) b = granted n b
-swept_outcome (swept.Refused k) b = refused b (refusal_number k)
-
--- what an allocation found, as an answer
-abbrev pub answer_of : Taken → Answer
-answer_of (taken.At a) = Granted a
-answer_of taken.NoRoom = Refused NoRoom
-
--- what a resize came to, as an answer
-abbrev pub resized_as : Resized → Answer
-resized_as (resized.To a) = Granted a
-resized_as resized.NotLive = Refused NotLive
-resized_as resized.NoRoom = Refused NoRoom
+swept_outcome r b = outcome_by (λ n. n) r b

@@ -1,13 +1,21 @@
 -- What the answer of a walk's step means.
+use Rattle.std.specs.Prelude.{ℕ, Option, Some, None, Result, Ok, Err}
+use Rattle.model.specs.Shape.{shape}
 use Rattle.model.specs.Reading as reading
+use Rattle.model.specs.Reading.{ended}
 use Rattle.model.specs.Calls.{Told}
+use Rattle.model.specs.Refused.{refusal_number}
+use Rattle.model.specs.declared.refusals.Refusal.{Refusal}
 use Rattle.reading.specs.Stepping.{told_kind}
+use Rattle.reading.specs.declared.stepping.MetBlock.{MetBlock}
 use Rattle.serving.specs.declared.walks.Step.{Step}
 
--- a step's answer, where the walk then stands, and the refusal beside them
-abbrev pub told_step : Step → Told reading.Step
-told_step r =
-    record {
-      refusal = r.refusal;
-      answer = record { position = r.block.position.0; size = r.block.size; kind = told_kind r.block.kind; next = r.walk.at.0 };
-    }
+-- what was met, and where the walk then stands
+abbrev pub told_next : ℕ → Option MetBlock → ℕ → reading.Step
+told_next w None n = ended (shape w) n
+told_next w (Some b) n = record { position = b.position.0; size = b.size; kind = told_kind b.kind; next = n }
+
+-- the answer of a step of a walk that stood at at, with the refusal 0; or a refusal, with the end, and the walk stays
+abbrev pub told_step : ℕ → ℕ → Result Step Refusal → Told reading.Step
+told_step w at (Ok s) = record { refusal = 0; answer = told_next w s.block s.walk.at.0 }
+told_step w at (Err k) = record { refusal = refusal_number k; answer = ended (shape w) at }

@@ -1,5 +1,5 @@
-// Every call, over the word size: it checks what it is lent, and then does what the rule of documents 01 and 02 says, or refuses and leaves every byte.
-// The crates `heap` and `hand` give the word size, and are what a program calls.
+// Every call, over the width of a word: it checks what it is lent, and then does what the rule of documents 01 and 02 says, or refuses and leaves every byte.
+// The crate `heap` names them in one place, and is what a program calls.
 #![tactic(auto)]
 
 pub mod counting;
@@ -8,96 +8,60 @@ pub mod recovery;
 pub mod resize;
 pub mod walks;
 
-ghost use Rattle.std.specs.Prelude.{◌≡◌};
-ghost use Rattle.words.specs.Width.{Width};
 ghost use Rattle.model.specs.Shape.{shape};
 ghost use Rattle.model.specs.Calls.{Initialises, Checks, Allocates, Frees};
-ghost use Rattle.serving.specs.Answers.{answer_of, outcome};
+ghost use Rattle.serving.specs.Answers.{outcome};
 
 use ending::{may_end, stored_end};
-use engine::{allocate as taking, free as giving};
-use examining::{Refusal, Verdict, examine, examine_for, is_lent};
-use model::{Address, MAGIC_BYTES, Position, magic};
-use words::word;
+use engine::free::free as free_live;
+use examining::{examine, examine_for, is_lent};
+use model::{Address, Position, Refusal, magic};
+use words::{Eight, Width};
 
-// What a call answers: granted, with an address or with 0 where it gives none; or why not.
-#[derive(Clone, Copy)]
-pub enum Answer {
-    Granted(Address),
-    Refused(Refusal),
-}
+// What a call that may write answers: an address, or 0 where it gives none, so that all have one type; or why not.
+pub type Answer = Result<Address, Refusal>;
 
 // Opens a heap that ends at `end`, in a buffer that holds none yet.
-pub fn initialise(w: usize, h: &mut [u8], end: Position) -> Answer
-    requires { Width w }
-    ensures { Initialises (shape w) h.old end.0 (outcome result h.new) }
+pub fn initialise<W: Width>(h: &mut [u8], end: Position) -> Answer
+    ensures { Initialises (shape W.BYTES) h.old end.0 (outcome result h.new) }
 {
-    if !is_lent(w, h) {
-        return Answer::Refused(Refusal::BadLength);
+    if !is_lent::<W>(h) {
+        return Err(Refusal::BadLength);
     }
-    if word(MAGIC_BYTES, h, 0) == magic(w) {
-        return Answer::Refused(Refusal::AlreadyOpened);
+    if Eight::word(h, 0) == magic::<W>() {
+        return Err(Refusal::AlreadyOpened);
     }
-    let e = end.0;
-    if !may_end(w, h.len(), end) {
-        return Answer::Refused(Refusal::BadEnd);
+    if !may_end::<W>(h.len(), end) {
+        return Err(Refusal::BadEnd);
     }
-    fresh::lay(w, &mut h[0..e]);
-    Answer::Granted(Address(0))
+    fresh::lay::<W>(&mut h[0..end.0]);
+    Ok(Address(0))
 }
 
 // Says whether the buffer holds a sound heap.
-pub fn check(w: usize, h: &[u8]) -> Answer
-    requires { Width w }
-    ensures { Checks (shape w) h.now (outcome result h.now) }
+pub fn check<W: Width>(h: &[u8]) -> Answer
+    ensures { Checks (shape W.BYTES) h.now (outcome result h.now) }
 {
-    let v = examine(w, h);
-    match v {
-        Verdict::Unfit(k) => Answer::Refused(k),
-        Verdict::Fine => Answer::Granted(Address(0)),
-    }
-}
-
-// What an allocation found, as an answer.
-fn granted_or_not(t: taking::Taken) -> Answer
-    ensures { result ≡ answer_of t }
-{
-    match t {
-        taking::Taken::At(a) => Answer::Granted(a),
-        taking::Taken::NoRoom => Answer::Refused(Refusal::NoRoom),
-    }
+    examine::<W>(h)?;
+    Ok(Address(0))
 }
 
 // Gives a record of n bytes.
-pub fn allocate(w: usize, h: &mut [u8], n: usize) -> Answer
-    requires { Width w }
-    ensures { Allocates (shape w) h.old n (outcome result h.new) }
+pub fn allocate<W: Width>(h: &mut [u8], n: usize) -> Answer
+    ensures { Allocates (shape W.BYTES) h.old n (outcome result h.new) }
 {
-    let v = examine_for(w, h, n);
-    match v {
-        Verdict::Unfit(k) => Answer::Refused(k),
-        Verdict::Fine => {
-            let t = growing::allocate(w, h, n);
-            granted_or_not(t)
-        }
-    }
+    examine_for::<W>(h, n)?;
+    growing::allocate::<W>(h, n).ok_or(Refusal::NoRoom)
 }
 
 // Gives back the record at a.
-pub fn free(w: usize, h: &mut [u8], a: Address) -> Answer
-    requires { Width w }
-    ensures { Frees (shape w) h.old a.0 (outcome result h.new) }
+pub fn free<W: Width>(h: &mut [u8], a: Address) -> Answer
+    ensures { Frees (shape W.BYTES) h.old a.0 (outcome result h.new) }
 {
-    let v = examine(w, h);
-    match v {
-        Verdict::Unfit(k) => Answer::Refused(k),
-        Verdict::Fine => {
-            let end = stored_end(w, h).0;
-            let done = giving::free(w, &mut h[0..end], a);
-            if done {
-                return Answer::Granted(Address(0));
-            }
-            Answer::Refused(Refusal::NotLive)
-        }
+    examine::<W>(h)?;
+    let end = stored_end::<W>(h).0;
+    match free_live::<W>(&mut h[0..end], a) {
+        Some(()) => Ok(Address(0)),
+        None => Err(Refusal::NotLive),
     }
 }

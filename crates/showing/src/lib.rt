@@ -8,62 +8,44 @@ pub mod map;
 pub mod payloads;
 
 ghost use Rattle.std.specs.Prelude.{◌≡◌, ◌+◌, ◌≤◌, length};
-ghost use Rattle.words.specs.Width.{Width};
-ghost use Rattle.model.specs.Shape.{shape, wide, hand, end_of};
-ghost use Rattle.model.specs.Sound.{Sound};
+ghost use Rattle.model.specs.Shape.{wide, hand, end_of};
 ghost use Rattle.model.specs.Calls.{Opened};
+ghost use Rattle.telling.specs.Tells.{Tells};
 
 use crate::blocks::write_blocks;
 use crate::counts::{write_classes, write_statistics};
 use crate::map::write_map;
 use crate::payloads::write_payloads;
-use ending::stored_end;
-use examining::{Refusal, Verdict, examine, refusal_number};
+use examining::examine;
 use filling::read_full;
-use model::{HAND, MAGIC_BYTES, MOST_BYTES, Position, WIDE, end_of, grows, magic};
+use model::{HAND, Hand, MAGIC_BYTES, MOST_BYTES, Position, Refusal, Wide, end_of, grows, magic};
+use reading::heap::SoundHeap;
 use std::io;
 use std::io::{Input, Write};
-use words::word;
+use words::{Eight, Width};
 
-// The bytes of a word of the heap that a buffer holds: the hand unit's where the first 8 bytes say so, or else the console's.
-pub fn word_size(h: &[u8]) -> usize
-    ensures { Width result × (Opened hand h.now → result ≡ hand.word) × ((Opened hand h.now → ⊥) → result ≡ wide.word) }
+// Whether a buffer holds the hand unit's heap, as its first 8 bytes say. Any other is taken for the console's.
+pub fn is_hand(h: &[u8]) -> bool
+    ensures { Tells result (Opened hand h.now) }
 {
     if h.len() < MAGIC_BYTES {
-        return WIDE;
+        return false;
     }
-    if word(MAGIC_BYTES, h, 0) == magic(HAND) {
-        return HAND;
-    }
-    WIDE
-}
-
-// A refusal in words.
-fn name_of(k: Refusal) -> &'static str {
-    match k {
-        Refusal::BadLength => "bad length",
-        Refusal::NotOpened => "not opened",
-        Refusal::NotSound => "not sound",
-        Refusal::BadSize => "bad size",
-        Refusal::NotLive => "not live",
-        Refusal::NoRoom => "no room",
-        Refusal::AlreadyOpened => "already opened",
-        Refusal::BadEnd => "bad end",
-    }
+    Eight::word(h, 0) == magic::<Hand>()
 }
 
 // Whose heap it is, where it is not the console's.
-fn write_unit<W: Write>(out: &mut W, w: usize) -> io::Result<()> {
-    if w == HAND {
+fn write_unit<W: Width, O: Write>(out: &mut O) -> io::Result<()> {
+    if W::BYTES == HAND {
         writeln!(out, "hand unit")?;
     }
     Ok(())
 }
 
 // Why the heap is refused. Nothing else is said of it: none of it could be trusted.
-fn write_refusal<W: Write>(out: &mut W, w: usize, k: Refusal, n: usize) -> io::Result<()> {
-    writeln!(out, "check: {} {}", refusal_number(k), name_of(k))?;
-    write_unit(out, w)?;
+fn write_refusal<W: Width, O: Write>(out: &mut O, k: Refusal, n: usize) -> io::Result<()> {
+    writeln!(out, "check: {} {k}", u64::from(k))?;
+    write_unit::<W, O>(out)?;
     if MOST_BYTES < n {
         writeln!(out, "the input is too long: more than {MOST_BYTES} bytes")?;
     }
@@ -71,10 +53,10 @@ fn write_refusal<W: Write>(out: &mut W, w: usize, k: Refusal, n: usize) -> io::R
 }
 
 // Where a heap that may grow ends, and how much further it could in a buffer of n bytes.
-fn write_end<W: Write>(out: &mut W, w: usize, end: Position, n: usize) -> io::Result<()>
+fn write_end<W: Width, O: Write>(out: &mut O, end: Position, n: usize) -> io::Result<()>
     requires { end.0 ≤ end_of n }
 {
-    if !grows(w) {
+    if !grows::<W>() {
         return Ok(());
     }
     writeln!(out, "end {}", end.0)?;
@@ -82,28 +64,33 @@ fn write_end<W: Write>(out: &mut W, w: usize, end: Position, n: usize) -> io::Re
 }
 
 // All that is told of a sound heap, in a buffer of n bytes.
-fn write_sound<W: Write>(out: &mut W, w: usize, h: &[u8], n: usize) -> io::Result<()>
-    requires { Width w × Sound (shape w) h.now × (end_of (length h.now) ≤ end_of n) }
+fn write_sound<W: Width, O: Write>(out: &mut O, heap: &SoundHeap<'_, W>, n: usize) -> io::Result<()>
+    requires { end_of (length heap.now) ≤ end_of n }
 {
     writeln!(out, "check: sound")?;
-    write_unit(out, w)?;
-    write_end(out, w, end_of(h.len()), n)?;
-    write_statistics(out, w, h)?;
-    write_classes(out, w, h)?;
-    write_blocks(out, w, h)?;
-    write_payloads(out, w, h)?;
-    write_map(out, w, h)
+    write_unit::<W, O>(out)?;
+    write_end::<W, O>(out, end_of(heap.bytes.len()), n)?;
+    write_statistics(out, heap)?;
+    write_classes(out, heap)?;
+    write_blocks(out, heap)?;
+    write_payloads(out, heap)?;
+    write_map(out, heap)
+}
+
+// The report on a heap with words of this width.
+fn write_answer<W: Width, O: Write>(out: &mut O, h: &[u8]) -> io::Result<()> {
+    match examine::<W>(h) {
+        Ok(heap) => write_sound(out, &heap, h.len()),
+        Err(k) => write_refusal::<W, O>(out, k, h.len()),
+    }
 }
 
 // The report on a heap, of either kind.
-pub fn write_report<W: Write>(out: &mut W, h: &[u8]) -> io::Result<()> {
-    let w = word_size(h);
-    match examine(w, h) {
-        Verdict::Unfit(k) => write_refusal(out, w, k, h.len()),
-        Verdict::Fine => {
-            let end = stored_end(w, h);
-            write_sound(out, w, &h[..end.0], h.len())
-        }
+pub fn write_report<O: Write>(out: &mut O, h: &[u8]) -> io::Result<()> {
+    if is_hand(h) {
+        write_answer::<Hand, O>(out, h)
+    } else {
+        write_answer::<Wide, O>(out, h)
     }
 }
 

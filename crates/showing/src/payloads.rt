@@ -1,22 +1,21 @@
 // The live payloads, of variable blocks and of items in use, a line each.
 ghost use Rattle.std.specs.Prelude.{◌+◌, ◌*◌, ◌≤◌, ◌<◌, length};
-ghost use Rattle.words.specs.Width.{Width};
 ghost use Rattle.model.specs.Shape.{shape, item_size};
-ghost use Rattle.model.specs.Sound.{Sound};
 ghost use Rattle.reading.specs.Stepping.{BlockRead};
 
 use model::{
-    Address, HELD, Position, address_of, asked_in, block_capacity, end_of, first_item_at, flags_in,
-    item_capacity, item_shown, item_size, items_in_page, start,
+    Address, HELD, Position, address_of, asked_in, block_capacity, first_item_at, flags_in,
+    item_capacity, item_shown, item_size, items_in_page,
 };
-use reading::stepping::{Kind, MetBlock, block_at};
+use reading::heap::SoundHeap;
+use reading::stepping::{Kind, MetBlock};
 use std::io;
 use std::io::Write;
-use words::word;
+use words::Width;
 
 // A payload's line.
-fn write_payload<W: Write>(
-    out: &mut W,
+fn write_payload<O: Write>(
+    out: &mut O,
     a: Address,
     capacity: usize,
     shown: usize,
@@ -25,66 +24,54 @@ fn write_payload<W: Write>(
 }
 
 // The payload of the item of class c with its header at q, where it is in use.
-fn write_item<W: Write>(out: &mut W, w: usize, h: &[u8], q: Position, c: usize) -> io::Result<()>
-    requires { Width w × (c < (shape w).classes) × (q.0 + w ≤ length h.now) }
+fn write_item<W: Width, O: Write>(out: &mut O, h: &[u8], q: Position, c: usize) -> io::Result<()>
+    requires { (c < (shape W.BYTES).classes) × (q.0 + W.BYTES ≤ length h.now) }
 {
-    let x = word(w, h, q.0);
+    let x = W::word(h, q.0);
     if flags_in(x) != HELD {
         return Ok(());
     }
-    let shown = item_shown(w, c, asked_in(x));
-    write_payload(out, address_of(w, q), item_capacity(w, c), shown)
+    let shown = item_shown::<W>(c, asked_in(x));
+    write_payload(out, address_of::<W>(q), item_capacity::<W>(c), shown)
 }
 
 // The payloads of a page's items in use, of class c with their headers from `first` on.
-fn write_items<W: Write>(
-    out: &mut W,
-    w: usize,
+fn write_items<W: Width, O: Write>(
+    out: &mut O,
     h: &[u8],
     first: Position,
     c: usize,
 ) -> io::Result<()>
-    requires { Width w × (c < (shape w).classes) × (first.0 + (shape w).per_page c * item_size (shape w) c ≤ length h.now) }
+    requires { (c < (shape W.BYTES).classes) × (first.0 + (shape W.BYTES).per_page c * item_size (shape W.BYTES) c ≤ length h.now) }
 {
-    let size = item_size(w, c);
-    let mut left = items_in_page(w, c);
+    let size = item_size::<W>(c);
     let mut q = first;
-    while left != 0 {
-        write_item(out, w, h, q, c)?;
+    for _ in 0..items_in_page::<W>(c) {
+        write_item::<W, O>(out, h, q, c)?;
         q = Position(q.0 + size);
-        left -= 1;
     }
     Ok(())
 }
 
 // The payloads of a block.
-fn write_held<W: Write>(out: &mut W, w: usize, h: &[u8], b: MetBlock) -> io::Result<()>
-    requires { BlockRead w h.now b.position.0 b }
+fn write_held<W: Width, O: Write>(out: &mut O, h: &[u8], b: MetBlock) -> io::Result<()>
+    requires { BlockRead W.BYTES h.now b.position.0 b }
 {
-    let p = b.position;
-    let size = b.size;
     match b.kind {
         Kind::Variable => {
-            let capacity = block_capacity(w, size);
-            write_payload(out, address_of(w, p), capacity, capacity)
+            let capacity = block_capacity::<W>(b.size);
+            write_payload(out, address_of::<W>(b.position), capacity, capacity)
         }
-        Kind::Page { class } => write_items(out, w, h, first_item_at(w, p), class),
-        Kind::Free { .. } | Kind::End => Ok(()),
+        Kind::Page { class } => write_items::<W, O>(out, h, first_item_at::<W>(b.position), class),
+        Kind::Free { .. } => Ok(()),
     }
 }
 
 // Every live payload, in rising order.
-pub fn write_payloads<W: Write>(out: &mut W, w: usize, h: &[u8]) -> io::Result<()>
-    requires { Width w × Sound (shape w) h.now }
-{
+pub fn write_payloads<W: Width, O: Write>(out: &mut O, heap: &SoundHeap<'_, W>) -> io::Result<()> {
     writeln!(out, "\nlive payloads: address, capacity, shown")?;
-    let end = end_of(h.len());
-    let mut p = start(w);
-    while p.0 < end.0 {
-        let b = block_at(w, h, p);
-        let next = Position(p.0 + b.size);
-        write_held(out, w, h, b)?;
-        p = next;
+    for block in heap.blocks() {
+        write_held::<W, O>(out, heap.bytes, block)?;
     }
     Ok(())
 }

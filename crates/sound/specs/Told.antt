@@ -1,5 +1,5 @@
 -- What each part of the check tells: the fixed words, and blocks and lists, as far as a map goes.
-use Rattle.std.specs.Prelude.{ℕ, ◌<◌, ◌≡◌, Bool, List, [], length, get_or}
+use Rattle.std.specs.Prelude.{ℕ, ◌<◌, ◌≡◌, Bool, List, [], length, get_or, Result, Ok, Err}
 use Rattle.words.specs.Word.{word_at}
 use Rattle.model.specs.Shape.{shape, index, start, end_of}
 use Rattle.model.specs.Parts.{magic_bytes, data_at, index_at, end_at, index_tag, index_tag_at, index_far_tag_at}
@@ -7,8 +7,6 @@ use Rattle.telling.specs.Tells.{Tells}
 use Rattle.walking.specs.Onward.{Whole}
 use Rattle.marking.specs.Maps.{map_end}
 use Rattle.walking.specs.declared.Stand.{Stand}
-use Rattle.sound.specs.declared.Filling.{Filling}
-use Rattle.sound.specs.declared.Filling.TheVariants.{Told, Beyond as Further}
 use Rattle.model.specs.Sound.{times, idle_items}
 use Rattle.walking.specs.Told.{Halted}
 use Rattle.visiting.specs.Lists.{Chains}
@@ -29,7 +27,7 @@ pub record Filled (w : ℕ) (b : List ℕ) (end : ℕ) : Type 0 where
   pub chains : Chains w b end 0 lists
   pub same : (c x : ℕ) → c < (shape w).classes → times x (get_or lists c []) ≡ times x (idle_items (shape w) c (start (shape w)) onward.rest)
 
--- blocks and lists, as far as a map goes
-pub record FillTold (w : ℕ) (b : List ℕ) (r : Filling) (m' : List ℕ) : Type 0 where
-  pub is_told : (x : Bool) → r ≡ Told x → Tells x (Filled w b (end_of (length b)))
-  pub is_beyond : (s : Stand) → r ≡ Further s → Halted w b (end_of (length b)) s m' × (map_end w (length m') < end_of (length b))
+-- blocks and lists, as far as a map goes: whether they are right, or where the walk stands at a page beyond it
+pub record FillTold (w : ℕ) (b : List ℕ) (r : Result Bool Stand) (m' : List ℕ) : Type 0 where
+  pub is_told : (x : Bool) → r ≡ Ok x → Tells x (Filled w b (end_of (length b)))
+  pub is_beyond : (s : Stand) → r ≡ Err s → Halted w b (end_of (length b)) s m' × (map_end w (length m') < end_of (length b))

@@ -1,38 +1,32 @@
 -- Each way through the call gives what resize gives: by the law of the split, where the ways that were not tried do not count.
-use Prim.Native.Nat.{ℕ}
-use mathlib.Core.Path.{◌≡◌, refl, sym, subst, ◌∙◌}
-use mathlib.Core.Bool.{true, false, false≢true}
-use mathlib.Core.List.{List}
-use native.Mathlib.Omega.{arith}
-use borrow.Author.Tests.{eqb-true, eq-eqb}
+use Rattle.std.proofs.Common.{ℕ, ◌≡◌, refl, sym, subst, ◌∙◌, true, false, List, arith, eqb-true, eq-eqb, Ok, Err}
+use Rattle.std.proofs.Math.Bool.{false≢true}
 use Rattle.words.specs.Width.{Width}
 use Rattle.model.specs.Shape.{shape}
 use Rattle.model.specs.Refusals.{no_room}
 use Rattle.model.specs.Calls.{Outcome, or_next, ResizesInPlace, Moves, Keeps, Resizes}
 use Rattle.model.proofs.rules.ResizeWays.{split_gives}
-use Rattle.serving.specs.declared.Answer.{Answer}
-use Rattle.serving.specs.declared.Answer.TheVariants.{Granted, Refused}
-use Rattle.examining.specs.Examined.{refusal_number}
-use Rattle.serving.specs.Answers.{outcome}
+use Rattle.model.specs.Refused.{refusal_number}
+use Rattle.serving.specs.Answers.{Answer, outcome}
 use Rattle.serving.proofs.Outcomes.{heap_of_lem}
 use Rattle.trying.specs.Trying.{is_no_room}
 
 -- what an answer says
 six : (r : Answer) (c : List ℕ) → is_no_room r ≡ true → (outcome r c).refusal ≡ no_room
-six (Granted a) c e = absurd (false≢true e)
-six (Refused k) c e = eqb-true (refusal_number k) no_room e
+six (Ok a) c e = absurd (false≢true e)
+six (Err k) c e = eqb-true (refusal_number k) no_room e
 
 not_six : (r : Answer) (c : List ℕ) → is_no_room r ≡ false → (outcome r c).refusal ≡ no_room → ⊥
-not_six (Granted a) c e f = omega (arith, f)
-not_six (Refused k) c e f = false≢true (sym e ∙ eq-eqb (refusal_number k) no_room f)
+not_six (Ok a) c e f = omega (arith, f)
+not_six (Err k) c e f = false≢true (sym e ∙ eq-eqb (refusal_number k) no_room f)
 
 -- so the next one is taken, or not
 goes_on : (r : Answer) (c : List ℕ) (next : Outcome) → is_no_room r ≡ true → or_next (outcome r c) next ≡ next
 goes_on r c next e = rw (eq-eqb (outcome r c).refusal no_room (six r c e)) refl
 
 stops : (r : Answer) (c : List ℕ) (next : Outcome) → is_no_room r ≡ false → or_next (outcome r c) next ≡ outcome r c
-stops (Granted a) c next e = refl
-stops (Refused k) c next e = rw e refl
+stops (Ok a) c next e = refl
+stops (Err k) c next e = rw e refl
 
 module _ {w : ℕ} (wd : Width w) (b : List ℕ) (a n : ℕ) (r : Answer) (c : List ℕ) (p : ResizesInPlace (shape w) b a n (outcome r c)) where
   pub first_gives : is_no_room r ≡ false → Resizes (shape w) b a n (outcome r c)

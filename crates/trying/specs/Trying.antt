@@ -1,11 +1,10 @@
 -- When the next way of resize is tried.
-use Rattle.std.specs.Prelude.{Bool, false, eqb}
+use Rattle.std.specs.Prelude.{Bool, false, eqb, Ok, Err}
 use Rattle.model.specs.Refusals.{no_room}
-use Rattle.serving.specs.declared.Answer.{Answer}
-use Rattle.serving.specs.declared.Answer.TheVariants.{Granted, Refused}
-use Rattle.examining.specs.Examined.{refusal_number}
+use Rattle.model.specs.Refused.{refusal_number}
+use Rattle.serving.specs.Answers.{Answer}
 
 -- an answer is 6
 abbrev pub is_no_room : Answer → Bool
-is_no_room (Granted a) = false
-is_no_room (Refused k) = eqb (refusal_number k) no_room
+is_no_room (Ok a) = false
+is_no_room (Err k) = eqb (refusal_number k) no_room

@@ -1,14 +1,6 @@
 -- Laws of the count along all item lists: what a test tells of the lists, and why counting is enough.
-use Prim.Native.Nat.{ℕ, zero, suc, ◌+◌, ◌%◌, ◌≤◌, ◌<◌}
-use mathlib.Core.Path.{◌≡◌, refl, sym, ap, ◌∙◌}
-use mathlib.Core.Bool.{true}
-use mathlib.Core.List.{List, [], ◌∷◌}
-use native.Mathlib.Omega.{arith}
-use native.Mathlib.Decide.{ℕ_discrete, dec_le}
-use lib.ListN.{length, length-append}
-use lib.Dec.{eqb}
-use lib.Bits.{bit_or}
-use borrow.Author.Tests.{eqb-true, eq-eqb}
+use Rattle.std.proofs.Common.{◌≡◌, ℕ, zero, suc, ◌+◌, ◌%◌, ◌≤◌, ◌<◌, true, List, [], ◌∷◌, length, eqb, bit_or, Option, Some, None, refl, sym, ap, ◌∙◌, arith, eqb-true, eq-eqb, length-append}
+use Rattle.std.proofs.Math.Decide.{ℕ_discrete, dec_le}
 use Rattle.words.specs.Width.{Width}
 use Rattle.words.specs.Word.{word_at}
 use Rattle.words.specs.Bits.{bit_at}
@@ -22,8 +14,6 @@ use Rattle.visiting.specs.Lists.{Chains, flat, Listed, FourEmpty}
 use Rattle.following.specs.Lists.{ListCounted}
 use Rattle.telling.specs.Tells.{Tells}
 use Rattle.following.specs.Told.{ListTold}
-use Rattle.marking.specs.declared.map.Marks.{Marks}
-use Rattle.marking.specs.declared.map.Marks.TheVariants.{Unsound, Count}
 use Rattle.marking.proofs.MapLaws.{bit_low, same_bit, fewer, all_met, marked_none}
 use Rattle.visiting.proofs.Chained.{same_chain}
 use Rattle.visiting.proofs.Flat.{flat_item, flat_once}
@@ -83,10 +73,10 @@ module _ {w : ℕ} {b : List ℕ} {end : ℕ} {m : List ℕ} {before n c : ℕ} 
               set = λ x q. g x (omega (arith, q, times_append x l (flat ls)));
             }
 
-    pub lists_fail : (a : Marks) → ListTold w b end c o m n a → a ≡ Unsound → ListsPassed w b end 0 m before → ⊥
+    pub lists_fail : (a : Option ℕ) → ListTold w b end c o m n a → a ≡ None → ListsPassed w b end 0 m before → ⊥
     lists_fail a t e v = let s = split (i.ahead v) in t.is_no e (length (flat s.rest)) s.first
 
-    pub lists_turn : (a : Marks) (r : ℕ) → ListTold w b end c o m n a → a ≡ Count r → ListsInv w b end m before r (c + 1)
+    pub lists_turn : (a : Option ℕ) (r : ℕ) → ListTold w b end c o m n a → a ≡ Some r → ListsInv w b end m before r (c + 1)
     unfolding Chains flat
     lists_turn a r t e =
         let k = t.is_yes r e in
@@ -132,7 +122,7 @@ lists_skip {w} {b} {end} {m} {before} {n} {c} e i = go 4 (omega arith)
         rw z i
     go (suc k) h =
         let z : c + suc k ≡ c + k + 1 = omega arith in
-        rw z (lists_turn (go k (omega arith)) (omega (arith, e.few)) 0 (sym (e.heads k (omega arith))) (Count n) n (list_none refl) refl)
+        rw z (lists_turn (go k (omega arith)) (omega (arith, e.few)) 0 (sym (e.heads k (omega arith))) (Some n) n (list_none refl) refl)
 
 -- the bits of items
 unfoldable bits_of : ℕ → List ℕ → List ℕ
@@ -191,11 +181,11 @@ pub none_start : {w : ℕ} → Width w → {b : List ℕ} {end : ℕ} → NoneLi
 none_start wd = record { none = λ _. lists_start wd no_marks; some = λ f. absurd (f refl) }
 
 pub none_turn : {w : ℕ} {b : List ℕ} {end any c x : ℕ} → c < (shape w).classes → x ≡ word_at w b (head_at (shape w) c) → NoneListed w b end any c → NoneListed w b end (bit_or any x) (c + 1)
-none_turn {w} {b} {end} {any} {c} {x} h e v = record { none = λ z. lists_turn (v.none (omega (arith, z, or_more any x))) h x e (Count 0) 0 (list_none (omega (arith, z, or_more any x))) refl; some = λ f. go f (ℕ_discrete any 0) (ℕ_discrete x 0) }
+none_turn {w} {b} {end} {any} {c} {x} h e v = record { none = λ z. lists_turn (v.none (omega (arith, z, or_more any x))) h x e (Some 0) 0 (list_none (omega (arith, z, or_more any x))) refl; some = λ f. go f (ℕ_discrete any 0) (ℕ_discrete x 0) }
   where
     go : (bit_or any x ≡ 0 → ⊥) → Dec (any ≡ 0) → Dec (x ≡ 0) → Listed w b end [] → ⊥
     go f (no a) d l = v.some a l
-    go f (yes a) (no d) l = let i = v.none a in lists_fail i h x e Unsound (list_any d) refl (listed_passed i.width no_marks l)
+    go f (yes a) (no d) l = let i = v.none a in lists_fail i h x e None (list_any d) refl (listed_passed i.width no_marks l)
     go f (yes a) (yes d) l = f (rw (a, d) refl)
 
 pub none_told : {w : ℕ} {b : List ℕ} {end any c : ℕ} → (shape w).classes ≤ c → NoneListed w b end any c → Tells (eqb any 0) (Listed w b end [])

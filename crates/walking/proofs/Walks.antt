@@ -1,13 +1,7 @@
 -- Laws of a walk over the blocks: what the tests at a tag tell of a run, and a run made longer by the block before it.
-use Prim.Native.Nat.{ℕ, ◌+◌, ◌-◌, ◌*◌, ◌%◌, ◌^◌, ◌≤◌, ◌<◌}
-use mathlib.Core.Path.{◌≡◌, refl, sym, ap, subst, ◌∙◌}
-use mathlib.Core.Bool.{Bool, true, false}
-use mathlib.Core.List.{List, [], ◌∷◌}
-use native.Mathlib.Omega.{arith}
-use native.Mathlib.Decide.{ℕ_discrete}
-use lib.ListN.{length}
-use lib.Dec.{eqb}
-use borrow.Author.Tests.{eq-eqb, ne_eqb}
+use Rattle.std.proofs.Common.{◌≡◌, ℕ, ◌+◌, ◌-◌, ◌*◌, ◌%◌, ◌^◌, ◌≤◌, ◌<◌, Bool, true, false, List, [], ◌∷◌, length, eqb, Option, Some, None, refl, sym, ap, subst, ◌∙◌, arith, eq-eqb, ne_eqb}
+use Rattle.std.proofs.Math.Decide.{ℕ_discrete}
+use Rattle.std.proofs.lemmas.Option.{none-some, same_Some}
 use Rattle.words.specs.Width.{Width}
 use Rattle.words.specs.Word.{word_at}
 use Rattle.model.specs.Shape.{shape, start, least_free, least_variable}
@@ -23,11 +17,11 @@ use Rattle.walking.specs.Onward.{Reads, Onward, Whole, free_items}
 use Rattle.marking.specs.Maps.{map_end}
 use Rattle.telling.specs.Told.{SizeIf}
 use Rattle.marking.specs.Told.{Marking, UseMarked}
-use Rattle.walking.specs.Told.{BlocksMarked, WholeMarked, WalkRoom, WalkRoomAt, Stood, StoodAt, Paused, Halted, PassTold, WalkTold}
+use Rattle.walking.specs.Told.{BlocksMarked, WholeMarked, WalkRoom, WalkRoomAt, Stood, StoodAt, Paused, Halted, HaltsIn, PassTold, WalkTold, end_from}
 use Rattle.telling.specs.Neighbours.{touches, expected}
 use Rattle.walking.specs.declared.Stand.{Stand}
-use Rattle.walking.specs.declared.Walk.TheVariants.{Unsound, Beyond, On}
-use Rattle.walking.specs.declared.Passed.TheVariants.{Unsound as Broken, To}
+use Rattle.walking.specs.declared.Reached.{Reached}
+use Rattle.walking.specs.declared.Reached.TheVariants.{Beyond, On}
 use Rattle.marking.proofs.PageLaws.{other_in, variable_in}
 use Rattle.marking.proofs.MapLaws.{adds_none, adds_append, marking_on}
 
@@ -170,12 +164,6 @@ link_room {w} wd prev n h k = go (ℕ_discrete prev 0)
     go (no e) = rw (ne_eqb prev 0 e) (omega arith)
 
 -- the answers of a walk are different, and say where it stands
-wrong_beyond : {s : Stand} → Unsound ≡ Beyond s → ⊥
-wrong_beyond {s} e = let z : ◌≡◌ {A = ℕ} 0 1 = cc in omega arith
-
-wrong_on : {s : Stand} → Unsound ≡ On s → ⊥
-wrong_on {s} e = let z : ◌≡◌ {A = ℕ} 0 1 = cc in omega arith
-
 on_beyond : {s x : Stand} → On s ≡ Beyond x → ⊥
 on_beyond {s} {x} e = let z : ◌≡◌ {A = ℕ} 0 1 = cc in omega arith
 
@@ -185,34 +173,26 @@ beyond_same e = cc
 on_same : {s x : Stand} → On s ≡ On x → s ≡ x
 on_same e = cc
 
-none_to : {s : Stand} → Broken ≡ To s → ⊥
-none_to {s} e = let z : ◌≡◌ {A = ℕ} 0 1 = cc in omega arith
-
-to_same : {s x : Stand} → To s ≡ To x → s ≡ x
-to_same e = cc
-
 -- answers of a walk
-pub walk_wrong : {w : ℕ} {b : List ℕ} {end : ℕ} {P : Stand → Type 0} {m' : List ℕ} → (Whole w b end → ⊥) → WalkTold w b end P Unsound m'
-walk_wrong f = record { is_no = λ _. f; is_beyond = λ s y. absurd (wrong_beyond y); is_on = λ s y. absurd (wrong_on y) }
+module _ {w : ℕ} {b : List ℕ} {end : ℕ} {P : Stand → Type 0} {m : List ℕ} where
+  pub walk_wrong : (Whole w b end → ⊥) → WalkTold w b end P None m
+  walk_wrong f = record { is_no = λ _. f; is_beyond = λ s y. absurd (none-some _ y); is_on = λ s y. absurd (none-some _ y) }
 
-pub walk_beyond : {w : ℕ} {b : List ℕ} {end : ℕ} {P : Stand → Type 0} {m' : List ℕ} (s : Stand) → Halted w b end s m' → map_end w (length m') < end → WalkTold w b end P (Beyond s) m'
-walk_beyond {w} {b} {end} {P} {m'} s v l = record { is_no = λ y. absurd (wrong_beyond (sym y)); is_beyond = λ x y. subst (λ (z : Stand). Halted w b end z m' × (map_end w (length m') < end)) (beyond_same y) (v, l); is_on = λ x y. absurd (on_beyond (sym y)) }
+  pub walk_beyond : (s : Stand) → Halted w b end s m → map_end w (length m) < end → WalkTold w b end P (Some (Beyond s)) m
+  walk_beyond s v l = record { is_no = λ y. absurd (none-some _ (sym y)); is_beyond = λ x y. subst (λ (z : Stand). Halted w b end z m × (map_end w (length m) < end)) (beyond_same (same_Some _ _ y)) (v, l); is_on = λ x y. absurd (on_beyond (sym (same_Some _ _ y))) }
 
-pub walk_on : {w : ℕ} {b : List ℕ} {end : ℕ} {P : Stand → Type 0} {m' : List ℕ} (s : Stand) → StoodAt w b end s m' → P s → WalkTold w b end P (On s) m'
-walk_on {w} {b} {end} {P} {m'} s v l = record { is_no = λ y. absurd (wrong_on (sym y)); is_beyond = λ x y. absurd (on_beyond y); is_on = λ x y. subst (λ (z : Stand). StoodAt w b end z m' × P z) (on_same y) (v, l) }
+  pub walk_on : (s : Stand) → StoodAt w b end s m → P s → WalkTold w b end P (Some (On s)) m
+  walk_on s v l = record { is_no = λ y. absurd (none-some _ (sym y)); is_beyond = λ x y. absurd (on_beyond (same_Some _ _ y)); is_on = λ x y. subst (λ (z : Stand). StoodAt w b end z m × P z) (on_same (same_Some _ _ y)) (v, l) }
 
-pub pass_wrong : {w : ℕ} {b : List ℕ} {end : ℕ} {P : Stand → Type 0} {m : List ℕ} → (Whole w b end → ⊥) → PassTold w b end P Broken m
-pass_wrong f = record { is_no = λ _. f; is_to = λ s y. absurd (none_to y) }
+  pub pass_wrong : (Whole w b end → ⊥) → PassTold w b end P None m
+  pass_wrong f = record { is_no = λ _. f; is_to = λ s y. absurd (none-some _ y) }
 
-pub pass_to : {w : ℕ} {b : List ℕ} {end : ℕ} {P : Stand → Type 0} {m : List ℕ} (s : Stand) → StoodAt w b end s m → P s → PassTold w b end P (To s) m
-pass_to {w} {b} {end} {P} {m} s v l = record { is_no = λ y. absurd (none_to (sym y)); is_to = λ x y. subst (λ (z : Stand). StoodAt w b end z m × P z) (to_same y) (v, l) }
+  pub pass_to : (s : Stand) → StoodAt w b end s m → P s → PassTold w b end P (Some s) m
+  pass_to s v l = record { is_no = λ y. absurd (none-some _ (sym y)); is_to = λ x y. subst (λ (z : Stand). StoodAt w b end z m × P z) (same_Some _ _ y) (v, l) }
 
 -- a place by its parts
 abbrev pub Parts : Stand → ℕ → ℕ → ℕ → ℕ → ℕ → Type 0
 Parts s p left prev link n = (s.at.0 ≡ p) × (s.left ≡ left) × (s.prev.0 ≡ prev) × (s.link.0 ≡ link) × (s.marks ≡ n)
-
-pub room_at : {w : ℕ} {b : List ℕ} {end p left prev link n : ℕ} (s : Stand) → Parts s p left prev link n → WalkRoom w b end p left prev link → WalkRoomAt w b end s
-room_at s e v = rw (e.0, e.1, e.2, e.3) v
 
 pub stood_at : {w : ℕ} {b m : List ℕ} {end p left prev link n : ℕ} (s : Stand) → Parts s p left prev link n → Stood w b end p left prev link n m → StoodAt w b end s m
 stood_at s e v = rw (e.0, e.1, e.2, e.3, e.4) v
@@ -294,3 +274,10 @@ pub record Passing (w : ℕ) (b : List ℕ) (end : ℕ) (from s : Stand) : Type 
 pub record Halts (w : ℕ) (b : List ℕ) (end : ℕ) (m₀ m : List ℕ) (s : Stand) : Type 0 where
   pub halted : Halted w b end s m
   pub size : length m ≡ length m₀
+
+-- where a walk that has halted ends is where it ends from every place that it comes to: what the passes from there tell
+pub paged : {w : ℕ} {b m₀ m m' : List ℕ} {end : ℕ} {s : Stand} {P : Stand → Type 0} {r : Option Reached} → Halts w b end m₀ m s → WalkTold w b (end_from s) P r m' → WalkTold w b end P r m'
+paged v t = rw v.halted.stood.room.stops at t
+
+pub passed_on : {w : ℕ} {b m : List ℕ} {end : ℕ} {s : Stand} {r : Option Stand} → StoodAt w b end s m → ((m : List ℕ) → StoodAt w b (end_from s) s m → PassTold w b (end_from s) (HaltsIn w b s.left) r m) → PassTold w b end (HaltsIn w b s.left) r m
+passed_on {w} {b} {m} v t = rw v.room.stops at (t m (rw v.room.stops v))

@@ -1,5 +1,5 @@
 -- What a walk over the blocks asks and tells.
-use Rattle.std.specs.Prelude.{ℕ, ◌+◌, ◌*◌, ◌%◌, ◌≤◌, ◌<◌, ◌≡◌, Bool, false, List, [], length}
+use Rattle.std.specs.Prelude.{ℕ, ◌+◌, ◌*◌, ◌%◌, ◌≤◌, ◌<◌, ◌≡◌, Bool, false, List, [], length, Option, Some, None}
 use Rattle.words.specs.Word.{word_at}
 use Rattle.model.specs.Shape.{shape, start}
 use Rattle.model.specs.Parts.{free_kind, variable_kind, kind_in, size_in, first_free_at}
@@ -7,10 +7,8 @@ use Rattle.model.specs.inner.Links.{link_of}
 use Rattle.walking.specs.Onward.{Onward, Whole, free_items}
 use Rattle.marking.specs.Maps.{Adds, map_end}
 use Rattle.walking.specs.declared.Stand.{Stand}
-use Rattle.walking.specs.declared.Walk.{Walk}
-use Rattle.walking.specs.declared.Walk.TheVariants.{Unsound as Wrong, Beyond, On}
-use Rattle.walking.specs.declared.Passed.{Passed}
-use Rattle.walking.specs.declared.Passed.TheVariants.{Unsound as Broken, To}
+use Rattle.walking.specs.declared.Reached.{Reached}
+use Rattle.walking.specs.declared.Reached.TheVariants.{Beyond, On}
 use Rattle.marking.specs.Told.{Sizes, Marking}
 use Rattle.telling.specs.Neighbours.{touches, expected}
 
@@ -61,13 +59,13 @@ pub record Halted (w : ℕ) (b : List ℕ) (end : ℕ) (s : Stand) (m : List ℕ
   pub stood : StoodAt w b end s m
   pub paused : 0 < s.left → Paused w b s.at.0 s.left
 
--- a walk's answer; where it has gone on, P holds of where it stands
-pub record WalkTold (w : ℕ) (b : List ℕ) (end : ℕ) (P : Stand → Type 0) (r : Walk) (m' : List ℕ) : Type 0 where
-  pub is_no : r ≡ Wrong → Whole w b end → ⊥
-  pub is_beyond : (s : Stand) → r ≡ Beyond s → Halted w b end s m' × (map_end w (length m') < end)
-  pub is_on : (s : Stand) → r ≡ On s → StoodAt w b end s m' × P s
+-- a walk's answer, nothing where the heap is not sound; where it has gone on, P holds of where it stands
+pub record WalkTold (w : ℕ) (b : List ℕ) (end : ℕ) (P : Stand → Type 0) (r : Option Reached) (m' : List ℕ) : Type 0 where
+  pub is_no : r ≡ None → Whole w b end → ⊥
+  pub is_beyond : (s : Stand) → r ≡ Some (Beyond s) → Halted w b end s m' × (map_end w (length m') < end)
+  pub is_on : (s : Stand) → r ≡ Some (On s) → StoodAt w b end s m' × P s
 
 -- the same of a walk over blocks without items, whatever the map
-pub record PassTold (w : ℕ) (b : List ℕ) (end : ℕ) (P : Stand → Type 0) (r : Passed) (m : List ℕ) : Type 0 where
-  pub is_no : r ≡ Broken → Whole w b end → ⊥
-  pub is_to : (s : Stand) → r ≡ To s → StoodAt w b end s m × P s
+pub record PassTold (w : ℕ) (b : List ℕ) (end : ℕ) (P : Stand → Type 0) (r : Option Stand) (m : List ℕ) : Type 0 where
+  pub is_no : r ≡ None → Whole w b end → ⊥
+  pub is_to : (s : Stand) → r ≡ Some s → StoodAt w b end s m × P s

@@ -1,17 +1,9 @@
 -- Laws of maps of bits.
-use Prim.Native.Nat.{ℕ, zero, suc, ◌+◌, ◌*◌, ◌/◌, ◌%◌, ◌^◌, ◌≤◌, ◌<◌}
-use mathlib.Core.Path.{◌≡◌, refl, sym, ap, ◌∙◌}
-use mathlib.Core.List.{List, [], ◌∷◌}
-use native.Mathlib.Omega.{arith}
-use native.Mathlib.Decide.{ℕ_discrete, dec_le}
-use lib.ListN.{length, length-set, get_or, set, replicate}
-use lib.Seq.{get_or-set_same, get_or-set_other}
-use lib.Pow.{shr-shr, shl_exact}
-use lib.Dec.{eqb}
-use borrow.Author.Tests.{eqb-true, eqb-false}
-use mathlib.Core.Bool.{Bool, true, false}
-use native.Mathlib.Nat
-use native.Mathlib.Numerals.{one-add}
+use Rattle.std.proofs.Common.{ℕ, zero, suc, ◌+◌, ◌-◌, ◌*◌, ◌/◌, ◌%◌, ◌^◌, ◌≤◌, ◌<◌, ◌≡◌, refl, sym, ap, ◌∙◌, List, [], ◌∷◌, ◌++◌, drop, arith, length, get_or, set, replicate, get_or-set_same, get_or-set_other, get_or-append-add, get_or-drop, shr-shr, shl_exact, eqb, eqb-true, Bool, true, false, one-add}
+use Rattle.std.proofs.Math.Decide.{dec_lt}
+use Rattle.std.proofs.Math.ListN.{get_or-append}
+use borrow.Author.Tests.{eqb-false}
+use Rattle.std.proofs.Math.Nat
 use Rattle.words.specs.Bits.{bit_of, bit_at, marked}
 
 -- the same bit, by steps: what the laws below go by
@@ -102,30 +94,14 @@ beyond_clear m i h = zero_clear m i (none_at m (i / 64) h)
     none_at (x ∷ xs) zero h = absurd (omega arith)
     none_at (x ∷ xs) (suc k) h = none_at xs k (omega arith)
 
--- the words of one map are stored in another, which was clear: the first k of them are
-pub record Spreading (from to₀ to : List ℕ) (k : ℕ) : Type 0 where
-  pub size : length to ≡ length to₀
-  pub room : length from ≤ length to
-  pub done : (j : ℕ) → j / 64 < k → bit_at to j ≡ bit_at from j
-  pub ahead : (j : ℕ) → k ≤ j / 64 → bit_at to j ≡ 0
-
-pub spread_turn : {from to₀ to : List ℕ} {k : ℕ} → k < length from → Spreading from to₀ to k → Spreading from to₀ (set to k (get_or from k 0)) (k + 1)
+-- a map in place of the first words of a longer one, which is clear
+pub spread_over : (from to : List ℕ) → ((j : ℕ) → bit_at to j ≡ 0) → (j : ℕ) → bit_at (from ++ drop (length from) to) j ≡ bit_at from j
 unfolding bit_at
-spread_turn {from} {to₀} {to} {k} h i =
-    record {
-      size = length-set to k (get_or from k 0) ∙ i.size;
-      room = rw (length-set to k (get_or from k 0)) i.room;
-      done = λ j l. at j (ℕ_discrete (j / 64) k) l;
-      ahead = λ j l. ap (λ (x : ℕ). bit_of x (j % 64)) (get_or-set_other to k (j / 64) (get_or from k 0) 0 (λ e. omega arith)) ∙ i.ahead j (omega arith);
-    }
+spread_over from to clear j = go (dec_lt (j / 64) (length from))
   where
-    at : (j : ℕ) → Dec (j / 64 ≡ k) → j / 64 < k + 1 → bit_at (set to k (get_or from k 0)) j ≡ bit_at from j
-    at j (yes e) l = rw (e, get_or-set_same to k (get_or from k 0) 0 (omega (arith, i.room))) refl
-    at j (no e) l = ap (λ (x : ℕ). bit_of x (j % 64)) (get_or-set_other to k (j / 64) (get_or from k 0) 0 e) ∙ i.done j (omega arith)
-
-pub spread_done : {from to₀ to : List ℕ} {k : ℕ} → length from ≤ k → Spreading from to₀ to k → (j : ℕ) → bit_at to j ≡ bit_at from j
-spread_done {from} {to₀} {to} {k} h i j = go (dec_le k (j / 64))
-  where
-    go : Dec (k ≤ j / 64) → bit_at to j ≡ bit_at from j
-    go (yes l) = i.ahead j l ∙ sym (beyond_clear from j (omega arith))
-    go (no l) = i.done j (omega arith)
+    go : Dec (j / 64 < length from) → bit_at (from ++ drop (length from) to) j ≡ bit_at from j
+    go (yes l) = ap (λ (x : ℕ). bit_of x (j % 64)) (get_or-append from (drop (length from) to) 0 (j / 64) l)
+    go (no h) =
+        let e : length from + (j / 64 - length from) ≡ j / 64 = omega arith in
+        let a : get_or (from ++ drop (length from) to) (j / 64) 0 ≡ get_or to (j / 64) 0 = rw e at (get_or-append-add from (drop (length from) to) (j / 64 - length from) 0 ∙ get_or-drop (length from) to (j / 64 - length from) 0) in
+        ap (λ (x : ℕ). bit_of x (j % 64)) a ∙ clear j ∙ sym (beyond_clear from j (omega arith))

@@ -1,26 +1,39 @@
--- Bytes set side by side make the number that their weighted sum is.
-use Prim.Native.Nat.{ℕ, ◌+◌, ◌*◌, ◌<◌}
-use mathlib.Core.Path.{◌≡◌}
-use native.Mathlib.Omega.{arith}
-use lib.Bits.{bit_or, or_shifted_r}
+-- A word by its bytes: what stands at its place, and the list that is left when it is written.
+use Rattle.std.proofs.Common.{ℕ, zero, suc, ◌≡◌, refl, sym, ◌∙◌, ◌+◌, ◌/◌, ◌%◌, ◌≤◌, List, [], ◌∷◌, ◌++◌, length, take, drop, set, arith}
+use Rattle.std.proofs.lemmas.List.{append_assoc, take-append-drop, take_more_set, drop-set-lt, length-set}
+use Rattle.words.specs.Word.{put}
 
-pub side_by_side : (b0 b1 b2 b3 b4 b5 b6 b7 : ℕ) → b0 < 256 → b1 < 256 → b2 < 256 → b3 < 256 → b4 < 256 → b5 < 256 → b6 < 256 → b7 < 256
-    → bit_or (bit_or (bit_or (bit_or (bit_or (bit_or (bit_or b0 (b1 * 256)) (b2 * 65536)) (b3 * 16777216)) (b4 * 4294967296)) (b5 * 1099511627776)) (b6 * 281474976710656)) (b7 * 72057594037927936)
-    ≡ b0 + 256 * (b1 + 256 * (b2 + 256 * (b3 + 256 * (b4 + 256 * (b5 + 256 * (b6 + 256 * b7))))))
-side_by_side b0 b1 b2 b3 b4 b5 b6 b7 h0 h1 h2 h3 h4 h5 h6 h7 =
-    let e1 : bit_or b0 (b1 * 256) ≡ b1 * 256 + b0 = or_shifted_r b1 8 b0 (omega arith) in
-    let e2 : bit_or (b1 * 256 + b0) (b2 * 65536) ≡ b2 * 65536 + (b1 * 256 + b0) = or_shifted_r b2 16 (b1 * 256 + b0) (omega arith) in
-    let e3 : bit_or (b2 * 65536 + (b1 * 256 + b0)) (b3 * 16777216) ≡ b3 * 16777216 + (b2 * 65536 + (b1 * 256 + b0)) = or_shifted_r b3 24 (b2 * 65536 + (b1 * 256 + b0)) (omega arith) in
-    let e4 : bit_or (b3 * 16777216 + (b2 * 65536 + (b1 * 256 + b0))) (b4 * 4294967296) ≡ b4 * 4294967296 + (b3 * 16777216 + (b2 * 65536 + (b1 * 256 + b0))) = or_shifted_r b4 32 (b3 * 16777216 + (b2 * 65536 + (b1 * 256 + b0))) (omega arith) in
-    let e5 : bit_or (b4 * 4294967296 + (b3 * 16777216 + (b2 * 65536 + (b1 * 256 + b0)))) (b5 * 1099511627776) ≡ b5 * 1099511627776 + (b4 * 4294967296 + (b3 * 16777216 + (b2 * 65536 + (b1 * 256 + b0)))) = or_shifted_r b5 40 (b4 * 4294967296 + (b3 * 16777216 + (b2 * 65536 + (b1 * 256 + b0)))) (omega arith) in
-    let e6 : bit_or (b5 * 1099511627776 + (b4 * 4294967296 + (b3 * 16777216 + (b2 * 65536 + (b1 * 256 + b0))))) (b6 * 281474976710656) ≡ b6 * 281474976710656 + (b5 * 1099511627776 + (b4 * 4294967296 + (b3 * 16777216 + (b2 * 65536 + (b1 * 256 + b0))))) = or_shifted_r b6 48 (b5 * 1099511627776 + (b4 * 4294967296 + (b3 * 16777216 + (b2 * 65536 + (b1 * 256 + b0))))) (omega arith) in
-    let e7 : bit_or (b6 * 281474976710656 + (b5 * 1099511627776 + (b4 * 4294967296 + (b3 * 16777216 + (b2 * 65536 + (b1 * 256 + b0)))))) (b7 * 72057594037927936) ≡ b7 * 72057594037927936 + (b6 * 281474976710656 + (b5 * 1099511627776 + (b4 * 4294967296 + (b3 * 16777216 + (b2 * 65536 + (b1 * 256 + b0)))))) = or_shifted_r b7 56 (b6 * 281474976710656 + (b5 * 1099511627776 + (b4 * 4294967296 + (b3 * 16777216 + (b2 * 65536 + (b1 * 256 + b0)))))) (omega arith) in
-    rw (e1, e2, e3, e4, e5, e6, e7) (omega arith)
+-- the bytes of a word of w bytes, the least first
+unfoldable pub bytes_of : ℕ → ℕ → List ℕ
+bytes_of zero v = []
+bytes_of (suc w) v = v % 256 ∷ bytes_of w (v / 256)
 
-pub four_by_side : (b0 b1 b2 b3 : ℕ) → b0 < 256 → b1 < 256 → b2 < 256 → b3 < 256
-    → bit_or (bit_or (bit_or b0 (b1 * 256)) (b2 * 65536)) (b3 * 16777216) ≡ b0 + 256 * (b1 + 256 * (b2 + 256 * b3))
-four_by_side b0 b1 b2 b3 h0 h1 h2 h3 =
-    let e1 : bit_or b0 (b1 * 256) ≡ b1 * 256 + b0 = or_shifted_r b1 8 b0 (omega arith) in
-    let e2 : bit_or (b1 * 256 + b0) (b2 * 65536) ≡ b2 * 65536 + (b1 * 256 + b0) = or_shifted_r b2 16 (b1 * 256 + b0) (omega arith) in
-    let e3 : bit_or (b2 * 65536 + (b1 * 256 + b0)) (b3 * 16777216) ≡ b3 * 16777216 + (b2 * 65536 + (b1 * 256 + b0)) = or_shifted_r b3 24 (b2 * 65536 + (b1 * 256 + b0)) (omega arith) in
-    rw (e1, e2, e3) (omega arith)
+pub put_bytes : (w : ℕ) (b : List ℕ) (p v : ℕ) → p + w ≤ length b → put w b p v ≡ take p b ++ (bytes_of w v ++ drop (p + w) b)
+unfolding put bytes_of
+put_bytes zero b p v h = let z : p + 0 ≡ p = omega arith in rw z (sym (take-append-drop p b))
+put_bytes (suc w) b p v h =
+    let first : take (p + 1) (set b p (v % 256)) ≡ take p b ++ (v % 256 ∷ []) = take_more_set b p (v % 256) (omega arith) in
+    let rest : drop (p + 1 + w) (set b p (v % 256)) ≡ drop (p + 1 + w) b = drop-set-lt (p + 1 + w) b p (v % 256) (omega arith) in
+    put_bytes w (set b p (v % 256)) (p + 1) (v / 256) (simp length-set (omega arith))
+    ∙ (let e : p + suc w ≡ p + 1 + w = omega arith in rw (e, first, rest, append_assoc) refl)
+
+-- the four of a word of 4 bytes, and the eight of one of 8
+pub four_bytes : (v : ℕ) → v % 4294967296 % 256 ∷ v % 4294967296 / 256 % 256 ∷ v % 4294967296 / 65536 % 256 ∷ v % 4294967296 / 16777216 % 256 ∷ [] ≡ bytes_of 4 v
+unfolding bytes_of
+four_bytes v =
+    let a : v % 4294967296 % 256 ≡ v % 256 = omega arith in
+    let b : v % 4294967296 / 256 % 256 ≡ v / 256 % 256 = omega arith in
+    let c : v % 4294967296 / 65536 % 256 ≡ v / 256 / 256 % 256 = omega arith in
+    let d : v % 4294967296 / 16777216 % 256 ≡ v / 256 / 256 / 256 % 256 = omega arith in
+    rw (a, b, c, d) refl
+
+pub eight_bytes : (v : ℕ) → v % 256 ∷ v / 256 % 256 ∷ v / 65536 % 256 ∷ v / 16777216 % 256 ∷ v / 4294967296 % 256 ∷ v / 1099511627776 % 256 ∷ v / 281474976710656 % 256 ∷ v / 72057594037927936 % 256 ∷ [] ≡ bytes_of 8 v
+unfolding bytes_of
+eight_bytes v =
+    let c : v / 65536 ≡ v / 256 / 256 = omega arith in
+    let d : v / 16777216 ≡ v / 256 / 256 / 256 = omega arith in
+    let e : v / 4294967296 ≡ v / 256 / 256 / 256 / 256 = omega arith in
+    let f : v / 1099511627776 ≡ v / 256 / 256 / 256 / 256 / 256 = omega arith in
+    let g : v / 281474976710656 ≡ v / 256 / 256 / 256 / 256 / 256 / 256 = omega arith in
+    let h : v / 72057594037927936 ≡ v / 256 / 256 / 256 / 256 / 256 / 256 / 256 = omega arith in
+    rw (c, d, e, f, g, h) refl

@@ -1,12 +1,7 @@
 -- Laws of copied bytes.
-use Prim.Native.Nat.{ℕ, ◌+◌, ◌-◌, ◌≤◌, ◌<◌}
-use mathlib.Core.Path.{◌≡◌, refl, sym, ap, ◌∙◌}
-use mathlib.Core.Logic.{◌⊎◌, ⊎_elim}
-use mathlib.Core.List.{List, ◌++◌}
-use native.Mathlib.Omega.{arith}
-use native.Mathlib.Decide.{dec_lt}
-use lib.ListN.{length, get_or, set, take, drop, length-set, length-append, length-take, length-drop, get_or-append}
-use lib.Seq.{ext_get_or, get_or-set_same, get_or-set_other, get_or-take, get_or-drop, get_or-append-add, length-take-le}
+use Rattle.std.proofs.Common.{ℕ, ◌+◌, ◌-◌, ◌≤◌, ◌<◌, ◌≡◌, refl, sym, ap, ◌∙◌, ◌⊎◌, ⊎_elim, List, ◌++◌, arith, length, get_or, set, take, drop, length-set, length-append, length-take, length-drop, ext_get_or, get_or-set_same, get_or-set_other, get_or-take, get_or-drop, get_or-append-add, length-take-le}
+use Rattle.std.proofs.Math.Decide.{dec_lt}
+use Rattle.std.proofs.Math.ListN.{get_or-append}
 use Rattle.words.specs.Copy.{pasted, copied, Room}
 
 -- parts of two lists are equal where the lists agree there
@@ -159,26 +154,3 @@ module _ {b₀ : List ℕ} {from to n : ℕ} {b : List ℕ} {i : ℕ} (c : Copyi
 
   pub copy_done : i ≡ n → b ≡ copied from to n b₀
   copy_done e = paste_done c.pasting e
-
--- a part that was pasted to a place of its own, and from there
-pub copied_by : (b : List ℕ) (from to n : ℕ) → from + n ≤ length b → (z t : List ℕ) → length z ≡ n → t ≡ pasted b from 0 n z → (b' : List ℕ) → b' ≡ pasted t 0 to n b → b' ≡ copied from to n b
-copied_by b from to n p z t e et b' eb =
-    eb ∙ ap (λ (l : List ℕ). take to b ++ (l ++ drop (to + n) b)) (ext_get_or 0 (take n (drop 0 t)) (take n (drop from b)) (lengths ∙ sym (length-take-le n (drop from b) (simp length-drop (omega arith)))) (λ i l. at i (omega (arith, l, lengths))))
-  where
-    room : 0 + n ≤ length z
-    room = omega arith
-
-    long : length t ≡ n
-    long = ap length et ∙ length_pasted b z from 0 n p room ∙ e
-
-    lengths : length (take n (drop 0 t)) ≡ n
-    lengths = length-take-le n (drop 0 t) (simp length-drop (omega (arith, long)))
-
-    at : (i : ℕ) → i < n → get_or (take n (drop 0 t)) i 0 ≡ get_or (take n (drop from b)) i 0
-    at i l =
-        get_or-take n (drop 0 t) i 0 l
-        ∙ get_or-drop 0 t i 0
-        ∙ ap (λ (x : List ℕ). get_or x (0 + i) 0) et
-        ∙ pasted_in b z from 0 n p room i l
-        ∙ sym (get_or-drop from b i 0)
-        ∙ sym (get_or-take n (drop from b) i 0 l)

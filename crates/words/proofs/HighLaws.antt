@@ -1,8 +1,5 @@
 -- A number of 64 bits whose low part r, below n, is moved up by `up` onto the high part q: one comparison then tells of both.
-use Prim.Native.Nat.{ℕ, ◌+◌, ◌-◌, ◌*◌, ◌^◌, ◌≤◌, ◌<◌}
-use mathlib.Core.Path.{◌≡◌}
-use native.Mathlib.Nat.{mul-le-mul_right}
-use native.Mathlib.Omega.{arith}
+use Rattle.std.proofs.Common.{ℕ, ◌+◌, ◌-◌, ◌*◌, ◌^◌, ◌≤◌, ◌<◌, ◌≡◌, mul-le-mul_right, arith}
 
 module _ (q r up : ℕ) where
   pub high_fits : (n : ℕ) → r < n → q + (n - 1) * up < 2 ^ 64 → (r * up < 2 ^ 64) × (q + r * up < 2 ^ 64)

@@ -1,8 +1,6 @@
 -- What holds at 4 and at 8 holds at every word size.
-use Prim.Native.Nat.{ℕ}
-use mathlib.Core.Path.{◌≡◌, sym, subst}
-use native.Mathlib.Omega.{arith}
-use native.Mathlib.Decide.{ℕ_discrete}
+use Rattle.std.proofs.Common.{ℕ, ◌≡◌, sym, subst, arith}
+use Rattle.std.proofs.Math.Decide.{ℕ_discrete}
 use Rattle.words.specs.Width.{Width}
 
 pub four : (w : ℕ) → Width w → (w ≡ 8 → ⊥) → w ≡ 4

@@ -2,3 +2,4 @@ pub mod Word
 pub mod Copy
 pub mod Bits
 pub mod Width
+pub mod Widths

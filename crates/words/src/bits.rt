@@ -35,9 +35,5 @@ pub fn spread(from: &[u64], to: &mut [u64])
     requires { (length from.now ≤ length to.old) × ((j : ℕ) → bit_at to.old j ≡ 0) }
     ensures { (j : ℕ) → bit_at to.new j ≡ bit_at from.now j }
 {
-    let mut k = 0;
-    while k < from.len() {
-        to[k] = from[k];
-        k += 1;
-    }
+    to[..from.len()].copy_from_slice(from);
 }

@@ -1,9 +1,9 @@
-use Rattle.std.proofs.Common.{rules, arith, ◌≡◌, ℕ, ◌+◌, ◌≤◌, List, ◌++◌, length, take, drop, subst, drop_at, length-take-le}
+use Rattle.std.proofs.Common.{rules, arith, ◌≡◌, ℕ, ◌+◌, ◌≤◌, List, ◌++◌, length, take, drop, subst, drop_at, length-take-le, take-add}
 use Rattle.std.proofs.lemmas.Slice.{overwrites}
 use Rattle.std.specs.Io.KnownBytes.{Consumes}
 use Rattle.std.proofs.KnownBytes.{Consumes-trans}
 use borrow.Rule.Slice.PartMut.{put_mid}
-use lib.Seq.{take-add, take-append-le}
+use Rattle.std.proofs.Math.Seq.{take-append-le}
 use Rattle.filling.proofs.read_full.Goals as goal
 
 -- what a read put behind the first a bytes, up to its first m

@@ -4,4 +4,4 @@ use Rattle.links.proofs.put_free.Goals as goal
 
 pub returns : goal.returns
 unfolding draw free_words
-returns c = cc
+returns g c = cc

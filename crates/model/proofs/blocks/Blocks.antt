@@ -1,9 +1,5 @@
 -- Laws of a layout's picture.
-use Prim.Native.Nat.{ℕ, ◌+◌, ◌-◌, ◌*◌, ◌≤◌}
-use mathlib.Core.Path.{◌≡◌, refl, sym, ap}
-use mathlib.Core.List.{List, [], ◌∷◌, ◌++◌, append_assoc}
-use native.Mathlib.Omega.{arith}
-use lib.ListN.{length, get_or}
+use Rattle.std.proofs.Common.{ℕ, ◌+◌, ◌-◌, ◌*◌, ◌≤◌, ◌≡◌, refl, sym, ap, List, [], ◌∷◌, ◌++◌, append_assoc, arith, length, get_or}
 use Rattle.model.proofs.pictures.Pictures.{Rise, rise_down, rise_append}
 use Rattle.model.specs.Shape.{Shape, item_size}
 use Rattle.model.specs.Picture.{Word}

@@ -1,8 +1,5 @@
 -- What a release leaves as it is: all that free blocks add nothing to, as sums over pages, and what is live.
-use Prim.Native.Nat.{ℕ, ◌+◌}
-use mathlib.Core.Path.{◌≡◌, refl, sym, ap, ◌∙◌}
-use mathlib.Core.List.{List, [], ◌∷◌, ◌++◌}
-use native.Mathlib.Omega.{arith}
+use Rattle.std.proofs.Common.{ℕ, ◌+◌, ◌≡◌, refl, sym, ap, ◌∙◌, List, [], ◌∷◌, ◌++◌, arith}
 use Rattle.model.specs.Shape.{Shape}
 use Rattle.model.specs.Layout.{Slot, Block, free, used, use_size}
 use Rattle.model.specs.Rules.{Spot, before, in_front, released}

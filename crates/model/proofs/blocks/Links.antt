@@ -1,10 +1,5 @@
 -- What a change of the free block before or after some blocks does to their picture: one link changes.
-use Prim.Native.Nat.{ℕ, ◌+◌, ◌-◌, ◌*◌, ◌^◌, ◌≤◌, ◌<◌}
-use mathlib.Core.Path.{◌≡◌, refl, ◌∙◌}
-use mathlib.Core.List.{List, [], ◌∷◌}
-use mathlib.Core.Logic.{◌⊎◌, inl, inr, ⊎_elim}
-use native.Mathlib.Omega.{arith}
-use lib.ListN.{length}
+use Rattle.std.proofs.Common.{ℕ, ◌+◌, ◌-◌, ◌*◌, ◌^◌, ◌≤◌, ◌<◌, ◌≡◌, refl, ◌∙◌, List, [], ◌∷◌, ◌⊎◌, inl, inr, ⊎_elim, arith, length}
 use Rattle.words.specs.Word.{word_at, put}
 use Rattle.words.proofs.WordLaws.{word_same, word_other}
 use Rattle.model.specs.Picture.{Shows, draw}

@@ -1,9 +1,5 @@
 -- A variable block is made where it fits: the new layout is valid.
-use Prim.Native.Nat.{ℕ, ◌%◌, ◌≤◌}
-use mathlib.Core.Path.{◌≡◌, refl}
-use mathlib.Core.List.{List}
-use native.Mathlib.Omega.{arith}
-use lib.ListN.{length}
+use Rattle.std.proofs.Common.{ℕ, ◌%◌, ◌≤◌, ◌≡◌, refl, List, arith, length}
 use Rattle.model.specs.Shape.{Shape, least_variable, end_of}
 use Rattle.model.specs.Picture.{draw}
 use Rattle.model.specs.Layout.{variable, Layout, use_size, words}

@@ -1,9 +1,5 @@
 -- A block is given back: it joins a free neighbour on either side.
-use Prim.Native.Nat.{ℕ, ◌+◌, ◌%◌, ◌≤◌, ◌<◌}
-use mathlib.Core.Path.{◌≡◌, refl, sym, ap, subst, ◌∙◌}
-use mathlib.Core.List.{List, [], ◌∷◌, ◌++◌, append_assoc, append-nil}
-use mathlib.Core.Logic.{◌⊎◌, inl, inr, ⊎_elim}
-use native.Mathlib.Omega.{arith}
+use Rattle.std.proofs.Common.{ℕ, ◌+◌, ◌%◌, ◌≤◌, ◌<◌, ◌≡◌, refl, sym, ap, subst, ◌∙◌, List, [], ◌∷◌, ◌++◌, append_assoc, append-nil, ◌⊎◌, inl, inr, ⊎_elim, arith}
 use Rattle.model.specs.Shape.{Shape, start, least_free, least_variable}
 use Rattle.model.specs.Layout.{Use, variable, Block, free, used, Layout, if_free, use_size, size_of, ends, first_free}
 use Rattle.model.specs.Sound.{times, Allowed, AllowedUse, AllAllowed, Apart, idle_in, idle_items, Valid}

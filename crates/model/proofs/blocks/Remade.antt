@@ -1,10 +1,6 @@
 -- Blocks in the middle of a layout become others: a block is split, taken whole, or joined to its neighbours.
 -- The new blocks written whole, and the two links that lead there from outside, draw the new layout.
-use Prim.Native.Nat.{ℕ, ◌+◌, ◌-◌, ◌%◌, ◌≤◌}
-use mathlib.Core.Path.{◌≡◌, refl, sym, ap, ◌∙◌}
-use mathlib.Core.List.{List, [], ◌∷◌, ◌++◌}
-use native.Mathlib.Omega.{arith}
-use lib.ListN.{length}
+use Rattle.std.proofs.Common.{ℕ, ◌+◌, ◌-◌, ◌%◌, ◌≤◌, ◌≡◌, refl, sym, ap, ◌∙◌, List, [], ◌∷◌, ◌++◌, arith, length}
 use Rattle.words.specs.Word.{Bytes}
 use Rattle.model.specs.Shape.{Shape, start, least_free}
 use Rattle.model.specs.Picture.{Shows, draw}

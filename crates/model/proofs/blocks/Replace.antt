@@ -1,10 +1,5 @@
 -- Blocks in the middle of a heap are replaced by others: what is written is in them, and the two links that lead there from outside.
-use Prim.Native.Nat.{ℕ, ◌+◌, ◌-◌, ◌*◌, ◌^◌, ◌≤◌, ◌<◌}
-use mathlib.Core.Path.{◌≡◌, ◌∙◌}
-use mathlib.Core.List.{List, [], ◌∷◌, ◌++◌, append_assoc}
-use mathlib.Core.Logic.{◌⊎◌, ⊎_elim}
-use native.Mathlib.Omega.{arith}
-use lib.ListN.{length}
+use Rattle.std.proofs.Common.{ℕ, ◌+◌, ◌-◌, ◌*◌, ◌^◌, ◌≤◌, ◌<◌, ◌≡◌, ◌∙◌, List, [], ◌∷◌, ◌++◌, append_assoc, ◌⊎◌, ⊎_elim, arith, length}
 use Rattle.words.specs.Word.{put, Bytes}
 use Rattle.words.proofs.WordLaws.{length_put, put_out, bytes_put}
 use Rattle.model.specs.Picture.{Word, Shows, draw}

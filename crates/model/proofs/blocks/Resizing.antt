@@ -1,11 +1,8 @@
 -- Resize in place: a block stays as it is, loses its tail, or grows over a free right neighbour.
-use Prim.Native.Nat.{ℕ, ◌+◌, ◌-◌, ◌%◌, ◌≤◌, ◌<◌}
-use mathlib.Core.Path.{◌≡◌, refl, sym, ap, subst, ◌∙◌}
-use mathlib.Core.List.{List, [], ◌∷◌, ◌++◌}
-use mathlib.Core.Option.{none, some}
-use native.Mathlib.Omega.{arith}
-use native.Mathlib.Decide.{dec_le, dec_lt}
-use borrow.Author.Tests.{le-leb, lt-leb, lt-ltb, le-ltb, eq-eqb, ne_eqb}
+use Rattle.std.proofs.Common.{ℕ, ◌+◌, ◌-◌, ◌%◌, ◌≤◌, ◌<◌, ◌≡◌, refl, sym, ap, subst, ◌∙◌, List, [], ◌∷◌, ◌++◌, arith, le-leb, lt-ltb, le-ltb, eq-eqb, ne_eqb}
+use Rattle.std.proofs.Math.Option.{none, some}
+use Rattle.std.proofs.Math.Decide.{dec_le, dec_lt}
+use Rattle.std.proofs.lemmas.Bool.{lt-leb}
 use Rattle.model.specs.Shape.{Shape, start, tags, least_free, largest_item, least_variable, class_of, need_of}
 use Rattle.model.specs.Layout.{variable, Block, free, used, Layout, use_size, size_of, ends}
 use Rattle.model.specs.Sound.{Allowed, AllowedUse, AllAllowed, Apart, idle_in, idle_items, Valid}

@@ -1,12 +1,7 @@
 -- A free block is taken for a block in use, whole or its low end: what is read of it, what is written, and that this draws the new layout.
-use Prim.Native.Nat.{ℕ, ◌+◌, ◌-◌, ◌*◌, ◌%◌, ◌≤◌, ◌<◌}
-use mathlib.Core.Path.{◌≡◌, refl}
-use mathlib.Core.Bool.{cond}
-use mathlib.Core.List.{List, [], ◌∷◌, ◌++◌}
-use native.Mathlib.Omega.{arith}
-use native.Mathlib.Decide.{dec_le, dec_lt}
-use lib.Dec.{ltb}
-use borrow.Author.Tests.{le-leb, lt-leb, lt-ltb, le-ltb}
+use Rattle.std.proofs.Common.{ℕ, ◌+◌, ◌-◌, ◌*◌, ◌%◌, ◌≤◌, ◌<◌, ◌≡◌, refl, cond, List, [], ◌∷◌, ◌++◌, arith, ltb, le-leb, lt-ltb, le-ltb}
+use Rattle.std.proofs.Math.Decide.{dec_le, dec_lt}
+use Rattle.std.proofs.lemmas.Bool.{lt-leb}
 use Rattle.words.specs.Word.{word_at, Bytes}
 use Rattle.model.specs.Shape.{Shape, start, least_free}
 use Rattle.model.specs.Picture.{Word, Shows, draw}

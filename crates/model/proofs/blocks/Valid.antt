@@ -1,8 +1,5 @@
 -- A layout stays valid where blocks in its middle are replaced by others of the same extent and with the same free items.
-use Prim.Native.Nat.{ℕ, ◌+◌, ◌≤◌}
-use mathlib.Core.Path.{◌≡◌, refl, sym, ap, ◌∙◌}
-use mathlib.Core.List.{List, [], ◌∷◌, ◌++◌, append_assoc}
-use native.Mathlib.Omega.{arith}
+use Rattle.std.proofs.Common.{ℕ, ◌+◌, ◌≤◌, ◌≡◌, refl, sym, ap, ◌∙◌, List, [], ◌∷◌, ◌++◌, append_assoc, arith}
 use Rattle.model.specs.Shape.{Shape, start}
 use Rattle.model.specs.Layout.{Block, if_free, size_of, ends}
 use Rattle.model.specs.Sound.{times, AllAllowed, Apart, idle_in, idle_items, Valid}

@@ -1,11 +1,6 @@
 -- The size that was asked for of an item in use: what its class and its header say of it.
-use Prim.Native.Nat.{ℕ, zero, suc, ◌^◌, ◌≤◌, ◌<◌}
-use mathlib.Core.Path.{◌≡◌}
-use mathlib.Core.Logic.{inl, inr}
-use native.Mathlib.Omega.{arith}
-use native.Mathlib.Decide.{ℕ_discrete}
-use lib.ListN.{replicate}
-use borrow.Author.Tests.{eq-eqb, ne_eqb}
+use Rattle.std.proofs.Common.{ℕ, zero, suc, ◌^◌, ◌≤◌, ◌<◌, ◌≡◌, inl, inr, arith, replicate, eq-eqb, ne_eqb}
+use Rattle.std.proofs.Math.Decide.{ℕ_discrete}
 use Rattle.model.specs.Shape.{Shape, class_of, item_capacity, item_shown}
 use Rattle.model.specs.Parts.{held_header, asked_in}
 use Rattle.model.specs.Layout.{idle, held}

@@ -1,10 +1,6 @@
 -- Where items have their headers: an allocation leaves each in its page, and no variable block begins there. (An item of a closed class may hold as much as a variable block, so its size does not tell which it is.)
-use Prim.Native.Nat.{ℕ, ◌+◌, ◌≤◌, ◌<◌}
-use mathlib.Core.Path.{◌≡◌, refl, sym, subst}
-use mathlib.Core.List.{List, [], ◌∷◌, ◌++◌}
-use mathlib.Core.Logic.{◌⊎◌, inl, inr, ⊎_elim}
-use mathlib.Core.Option.{Option, none, some}
-use native.Mathlib.Omega.{arith}
+use Rattle.std.proofs.Common.{ℕ, ◌+◌, ◌≤◌, ◌<◌, ◌≡◌, refl, sym, subst, List, [], ◌∷◌, ◌++◌, ◌⊎◌, inl, inr, ⊎_elim, arith}
+use Rattle.std.proofs.Math.Option.{Option, none, some}
 use Rattle.model.specs.Shape.{Shape, start, class_of, need_of, page_need, item_size, item_at}
 use Rattle.model.specs.Layout.{Slot, held, Use, variable, page, Block, free, used, Layout, use_size, size_of, ends}
 use Rattle.model.specs.Sound.{Valid}

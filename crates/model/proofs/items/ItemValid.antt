@@ -1,15 +1,6 @@
 -- A layout stays valid where an item goes from its list into use, or back.
-use Prim.Native.Nat.{ℕ, ◌+◌, ◌-◌, ◌*◌, ◌≤◌, ◌<◌}
-use mathlib.Core.Path.{◌≡◌, refl, sym, ap, subst, ◌∙◌}
-use mathlib.Core.Bool.{Bool, true, false, cond}
-use mathlib.Core.List.{List, [], ◌∷◌}
-use mathlib.Core.Logic.{inl, inr}
-use native.Mathlib.Omega.{arith}
-use native.Mathlib.Decide.{ℕ_discrete}
-use lib.ListN.{length, get_or, set, length-set}
-use lib.Seq.{get_or-set_same, get_or-set_other}
-use lib.Dec.{eqb}
-use borrow.Author.Tests.{eq-eqb, ne_eqb}
+use Rattle.std.proofs.Common.{ℕ, ◌+◌, ◌-◌, ◌*◌, ◌≤◌, ◌<◌, ◌≡◌, refl, sym, ap, subst, ◌∙◌, Bool, true, false, cond, List, [], ◌∷◌, inl, inr, arith, length, get_or, set, length-set, get_or-set_same, get_or-set_other, eqb, eq-eqb, ne_eqb}
+use Rattle.std.proofs.Math.Decide.{ℕ_discrete}
 use Rattle.model.specs.Shape.{Shape, start, index, item_size}
 use Rattle.model.specs.Layout.{Slot, idle, held, variable, page, Block, free, used, Layout, use_size, size_of, ends}
 use Rattle.model.specs.Sound.{times, Within, AllWithin, Allowed, AllowedUse, AllAllowed, Apart, idle_slots, idle_in, idle_items, Valid}

@@ -1,14 +1,6 @@
 -- An item of a page changes between free and in use, and its class's list with it: two words of the picture change.
-use Prim.Native.Nat.{ℕ, suc, ◌+◌, ◌-◌, ◌*◌, ◌≤◌, ◌<◌}
-use mathlib.Core.Path.{◌≡◌, refl, sym, ap, subst}
-use mathlib.Core.Bool.{cond}
-use mathlib.Core.List.{List, [], ◌∷◌, ◌++◌}
-use mathlib.Core.Logic.{inl, inr}
-use native.Mathlib.Omega.{arith}
-use native.Mathlib.Decide.{ℕ_discrete}
-use lib.ListN.{length, get_or}
-use lib.Dec.{eqb}
-use borrow.Author.Tests.{eq-eqb, ne_eqb}
+use Rattle.std.proofs.Common.{ℕ, suc, ◌+◌, ◌-◌, ◌*◌, ◌≤◌, ◌<◌, ◌≡◌, refl, sym, ap, subst, cond, List, [], ◌∷◌, ◌++◌, inl, inr, arith, length, get_or, eqb, eq-eqb, ne_eqb}
+use Rattle.std.proofs.Math.Decide.{ℕ_discrete}
 use Rattle.model.specs.Picture.{Word}
 use Rattle.model.specs.Shape.{Shape, index, tags, item_size}
 use Rattle.model.specs.Layout.{Slot, idle, held, Use, variable, page, Block, free, used, next_of, use_size, size_of, ends, first_free, header, slot_words, use_words, own, block_words}

@@ -1,10 +1,5 @@
 -- The items of a new page, linked in rising order: their headers, and the list of their offsets.
-use Prim.Native.Nat.{ℕ, zero, suc, ◌+◌, ◌*◌, ◌≤◌, ◌<◌}
-use mathlib.Core.Path.{◌≡◌, refl, ap, ◌∙◌}
-use mathlib.Core.List.{List, [], ◌∷◌}
-use native.Mathlib.Omega.{arith}
-use lib.ListN.{replicate}
-use borrow.Author.Tests.{eq-eqb, ne_eqb}
+use Rattle.std.proofs.Common.{ℕ, zero, suc, ◌+◌, ◌*◌, ◌≤◌, ◌<◌, ◌≡◌, refl, ap, ◌∙◌, List, [], ◌∷◌, arith, replicate, eq-eqb, ne_eqb}
 use Rattle.model.specs.Shape.{Shape, index, item_size, offset_of}
 use Rattle.model.specs.Picture.{Word}
 use Rattle.model.specs.Layout.{Slot, idle, held, head_of, next_of, header, slot_words}

@@ -1,9 +1,5 @@
 -- What is live after a free: what was, but for the payload at the address.
-use Prim.Native.Nat.{ℕ, ◌+◌, ◌-◌}
-use mathlib.Core.Path.{◌≡◌, refl, sym, ap, subst, ◌∙◌}
-use mathlib.Core.List.{List, [], ◌∷◌, ◌++◌}
-use mathlib.Core.Logic.{◌⊎◌, inl, inr, ⊎_elim}
-use native.Mathlib.Omega.{arith}
+use Rattle.std.proofs.Common.{ℕ, ◌+◌, ◌-◌, ◌≡◌, refl, sym, ap, subst, ◌∙◌, List, [], ◌∷◌, ◌++◌, ◌⊎◌, inl, inr, ⊎_elim, arith}
 use Rattle.model.specs.Shape.{Shape, start, tags, address_of, item_at}
 use Rattle.model.specs.Layout.{variable, Block, free, used, Layout, use_size, ends}
 use Rattle.model.specs.Sound.{Allowed, AllowedUse, AllAllowed, Valid}

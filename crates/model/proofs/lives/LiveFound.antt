@@ -1,6 +1,5 @@
 -- Something is found at an address where something is live there.
-use Prim.Native.Nat.{ℕ}
-use mathlib.Core.Path.{◌≡◌, refl, subst}
+use Rattle.std.proofs.Common.{ℕ, ◌≡◌, refl, subst}
 use Rattle.model.specs.Shape.{Shape, start}
 use Rattle.model.specs.Layout.{Layout}
 use Rattle.model.specs.Sound.{Valid}

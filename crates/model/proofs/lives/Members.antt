@@ -1,6 +1,5 @@
 -- Laws of what stands in a list.
-use mathlib.Core.Logic.{◌⊎◌, inl, inr, ⊎_elim}
-use mathlib.Core.List.{List, [], ◌∷◌, ◌++◌}
+use Rattle.std.proofs.Common.{◌⊎◌, inl, inr, ⊎_elim, List, [], ◌∷◌, ◌++◌}
 use Rattle.model.specs.Live.{◌∈◌, InTurn}
 
 module _ {A : Type 0} where

@@ -1,10 +1,5 @@
 -- Live payloads lie in their blocks, apart, and hold no word of the picture: a drawing of their layout keeps their bytes.
-use Prim.Native.Nat.{ℕ, ◌+◌, ◌-◌, ◌*◌, ◌≤◌}
-use mathlib.Core.Path.{◌≡◌, ap}
-use mathlib.Core.List.{List, [], ◌∷◌, ◌++◌}
-use mathlib.Core.Logic.{inl, inr, ⊎_elim}
-use native.Mathlib.Omega.{arith}
-use lib.ListN.{length, get_or}
+use Rattle.std.proofs.Common.{ℕ, ◌+◌, ◌-◌, ◌*◌, ◌≤◌, ◌≡◌, ap, List, [], ◌∷◌, ◌++◌, inl, inr, ⊎_elim, arith, length, get_or}
 use Rattle.words.proofs.CopyLaws.{part_agree}
 use Rattle.model.specs.Shape.{Shape, start, item_size}
 use Rattle.model.specs.Parts.{first_free_at}

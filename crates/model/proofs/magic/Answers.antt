@@ -1,8 +1,8 @@
-use borrow.Author.Tests.{eq-eqb, ne_eqb}
+use Rattle.std.proofs.Common.{sym, ◌∙◌, eq-eqb, ne_eqb}
 use Rattle.model.proofs.magic.Goals as goal
 
-pub returns-then-w-eq-WIDE : goal.returns-then-w-eq-WIDE
-returns-then-w-eq-WIDE c = simp (eq-eqb _ _ c.if-w-eq-WIDE.true)
+pub returns-then-BYTES-eq-WIDE : goal.returns-then-BYTES-eq-WIDE
+returns-then-BYTES-eq-WIDE g c = simp (eq-eqb _ _ (sym c.BYTES.ensures ∙ c.if-BYTES-eq-WIDE.true))
 
-pub returns-else-w-eq-WIDE : goal.returns-else-w-eq-WIDE
-returns-else-w-eq-WIDE c = simp (ne_eqb _ _ c.if-w-eq-WIDE.false)
+pub returns-else-BYTES-eq-WIDE : goal.returns-else-BYTES-eq-WIDE
+returns-else-BYTES-eq-WIDE g c = simp (ne_eqb _ _ (λ e. c.if-BYTES-eq-WIDE.false (c.BYTES.ensures ∙ e)))

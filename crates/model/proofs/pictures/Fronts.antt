@@ -1,11 +1,8 @@
 -- The bytes of a heap as the first of a buffer's.
-use Prim.Native.Nat.{ℕ, ◌+◌, ◌-◌, ◌%◌, ◌≤◌, ◌<◌}
-use mathlib.Core.Path.{◌≡◌, sym, ap, subst, ◌∙◌}
-use mathlib.Core.List.{List, append-nil}
-use native.Mathlib.Omega.{arith}
-use native.Mathlib.Decide.{dec_le, dec_lt}
-use lib.ListN.{length, get_or, take, drop, length-append, length-drop, take-append-drop, get_or-append, get_or-eq_default}
-use lib.Seq.{length-take-le, take_all, drop-length, take-append_seam, take-append-le, drop-append-le, get_or-append-add, get_or-drop, get_or-take}
+use Rattle.std.proofs.Common.{ℕ, ◌+◌, ◌-◌, ◌%◌, ◌≤◌, ◌<◌, ◌≡◌, sym, ap, subst, ◌∙◌, List, append-nil, arith, length, get_or, take, drop, length-append, length-drop, take-append-drop, length-take-le, take_all, get_or-append-add, get_or-drop, get_or-take}
+use Rattle.std.proofs.Math.Decide.{dec_le, dec_lt}
+use Rattle.std.proofs.Math.ListN.{get_or-append, get_or-eq_default}
+use Rattle.std.proofs.Math.Seq.{drop-length, take-append_seam, take-append-le, drop-append-le}
 use Rattle.words.specs.Word.{word_at, Bytes}
 use Rattle.words.proofs.WordLaws.{word_agree}
 use Rattle.model.specs.Shape.{Shape, start, end_of}

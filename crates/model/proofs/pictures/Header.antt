@@ -1,10 +1,6 @@
 -- What stands before the data area once a layout is drawn: every byte behind the magic number is a word's, so it follows from the picture alone.
-use Prim.Native.Nat.{ℕ, ◌+◌, ◌*◌, ◌≤◌, ◌<◌}
-use mathlib.Core.Path.{◌≡◌, sym, ap, ◌∙◌}
-use mathlib.Core.List.{List, [], ◌∷◌, ◌++◌, append_assoc}
-use native.Mathlib.Omega.{arith}
-use native.Mathlib.Decide.{dec_lt}
-use lib.ListN.{length, get_or}
+use Rattle.std.proofs.Common.{ℕ, ◌+◌, ◌*◌, ◌≤◌, ◌<◌, ◌≡◌, sym, ap, ◌∙◌, List, [], ◌∷◌, ◌++◌, append_assoc, arith, length, get_or}
+use Rattle.std.proofs.Math.Decide.{dec_lt}
 use Rattle.words.specs.Word.{put}
 use Rattle.words.proofs.WordLaws.{put_over}
 use Rattle.model.specs.Shape.{Shape, start, index}

@@ -1,9 +1,5 @@
 -- A head of 0 says that a class's list is empty.
-use Prim.Native.Nat.{◌≤◌, ℕ, ◌+◌, ◌*◌, ◌<◌}
-use mathlib.Core.Path.{◌≡◌, refl, sym, ap, ◌∙◌}
-use mathlib.Core.List.{List, [], ◌∷◌}
-use native.Mathlib.Omega.{arith}
-use lib.ListN.{length, get_or}
+use Rattle.std.proofs.Common.{◌≤◌, ℕ, ◌+◌, ◌*◌, ◌<◌, ◌≡◌, refl, sym, ap, ◌∙◌, List, [], ◌∷◌, arith, length, get_or}
 use Rattle.words.specs.Word.{word_at}
 use Rattle.model.specs.Shape.{Shape, start, index}
 use Rattle.model.specs.Layout.{Layout, head_of}

@@ -1,12 +1,6 @@
 -- Laws of pictures, at every width.
-use Prim.Native.Nat.{ℕ, ◌+◌, ◌^◌, ◌≤◌, ◌<◌}
-use mathlib.Core.Path.{◌≡◌, refl, sym, ap, ◌∙◌}
-use mathlib.Core.List.{List, [], ◌∷◌, ◌++◌}
-use mathlib.Core.Logic.{inl, inr}
-use native.Mathlib.Omega.{arith}
-use native.Mathlib.Decide.{dec_lt, dec_le}
-use lib.ListN.{length, get_or}
-use lib.Seq.{ext_get_or}
+use Rattle.std.proofs.Common.{ℕ, ◌+◌, ◌^◌, ◌≤◌, ◌<◌, ◌≡◌, refl, sym, ap, ◌∙◌, List, [], ◌∷◌, ◌++◌, inl, inr, arith, length, get_or, ext_get_or}
+use Rattle.std.proofs.Math.Decide.{dec_lt, dec_le}
 use Rattle.words.specs.Word.{word_at, put, Bytes}
 use Rattle.words.proofs.WordLaws.{length_put, put_out, put_same, put_swap, put_in, word_same, word_other, word_agree, bytes_put}
 use Rattle.model.specs.Picture.{Word, Shows, draw}

@@ -1,12 +1,7 @@
 -- Writes inside live payloads leave a heap its layout: no word of the picture is there.
-use Prim.Native.Nat.{ℕ, ◌+◌, ◌≤◌, ◌<◌}
-use mathlib.Core.Path.{◌≡◌, refl, sym, subst, ◌∙◌}
-use mathlib.Core.List.{List, [], ◌∷◌}
-use mathlib.Core.Logic.{inl, inr}
-use native.Mathlib.Omega.{arith}
-use native.Mathlib.Decide.{dec_lt}
-use lib.ListN.{length, get_or, take, get_or-eq_default}
-use lib.Seq.{get_or-take, length-take-le}
+use Rattle.std.proofs.Common.{ℕ, ◌+◌, ◌≤◌, ◌<◌, ◌≡◌, refl, sym, subst, ◌∙◌, List, [], ◌∷◌, inl, inr, arith, length, get_or, take, get_or-take, length-take-le}
+use Rattle.std.proofs.Math.Decide.{dec_lt}
+use Rattle.std.proofs.Math.ListN.{get_or-eq_default}
 use Rattle.words.proofs.WordLaws.{word_agree}
 use Rattle.model.specs.Shape.{Shape, end_of}
 use Rattle.model.specs.Parts.{end_at}

@@ -1,11 +1,6 @@
 -- What an allocation leaves: a valid layout, with one payload more.
-use Prim.Native.Nat.{ℕ, ◌≤◌, ◌<◌}
-use mathlib.Core.Path.{◌≡◌, refl, sym, subst}
-use mathlib.Core.Logic.{◌⊎◌}
-use mathlib.Core.List.{List, [], ◌∷◌}
-use mathlib.Core.Option.{Option, none, some}
-use native.Mathlib.Omega.{arith}
-use lib.ListN.{get_or}
+use Rattle.std.proofs.Common.{ℕ, ◌≤◌, ◌<◌, ◌≡◌, refl, sym, subst, ◌⊎◌, List, [], ◌∷◌, arith, get_or}
+use Rattle.std.proofs.Math.Option.{Option, none, some}
 use Rattle.model.specs.Shape.{Shape, tags, largest_item, class_of, need_of, address_of, item_at}
 use Rattle.model.specs.Layout.{Layout}
 use Rattle.model.specs.Sound.{Valid}

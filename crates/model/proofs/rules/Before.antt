@@ -1,11 +1,5 @@
 -- What a heap is does not hang on which classes are handed out: one that was sound when all were is sound, with the same layout and the same live payloads.
-use Prim.Native.Nat.{ℕ, ◌+◌, ◌≤◌}
-use mathlib.Core.Path.{◌≡◌, refl, sym, ap, ap₂, subst, ◌∙◌}
-use mathlib.Core.Bool.{cond}
-use mathlib.Core.List.{List, [], ◌∷◌, ◌++◌}
-use native.Mathlib.Omega.{arith}
-use lib.Dec.{eqb}
-use lib.ListN.{length, get_or}
+use Rattle.std.proofs.Common.{ℕ, ◌+◌, ◌≤◌, ◌≡◌, refl, sym, ap, ap₂, subst, ◌∙◌, cond, List, [], ◌∷◌, ◌++◌, arith, eqb, length, get_or}
 use Rattle.model.specs.Picture.{Word, Shows}
 use Rattle.model.specs.Shape.{Shape, all_offered, start, index, item_size, item_capacity, item_shown, address_of, offset_of, end_of}
 use Rattle.model.specs.Parts.{first_item_at}

@@ -1,11 +1,7 @@
 -- Where nothing is live and no page is empty, one free block is left: the layout is a fresh heap's.
-use Prim.Native.Nat.{ℕ, ◌+◌, ◌-◌, ◌<◌}
-use mathlib.Core.Path.{◌≡◌, refl, sym, ap, ap₂, ◌∙◌}
-use mathlib.Core.List.{List, [], ◌∷◌, nil≢cons, append-eq-nil_iff}
-use native.Mathlib.Omega.{arith}
-use lib.ListN.{get_or, replicate, length-replicate, get_or-replicate}
-use lib.Seq.{ext_get_or}
-use borrow.Author.Tests.{eq-eqb}
+use Rattle.std.proofs.Common.{ℕ, ◌+◌, ◌-◌, ◌<◌, ◌≡◌, refl, sym, ap, ap₂, ◌∙◌, List, [], ◌∷◌, arith, get_or, replicate, ext_get_or, eq-eqb}
+use mathlib.Core.List.{nil≢cons, append-eq-nil_iff}
+use Rattle.std.proofs.Math.ListN.{length-replicate, get_or-replicate}
 use Rattle.model.specs.Shape.{Shape, start, item_size}
 use Rattle.model.specs.Parts.{first_item_at}
 use Rattle.model.specs.Layout.{Slot, idle, held, Use, variable, page, Block, free, used, Layout, size_of, ends}

@@ -1,11 +1,5 @@
 -- Document 01's figures and those of 02's requests, computed from the definitions: one table, one statement. At 8 bytes a word only, as the figures are.
-use Prim.Native.Nat.{ℕ, zero, suc, ◌+◌, ◌*◌, ◌≤◌, ◌<◌}
-use native.Mathlib.Nat.{div-add-mod', mod-lt}
-use native.Mathlib.Omega.{arith}
-use mathlib.Core.Path.{◌≡◌, refl}
-use mathlib.Core.Bool.{cond}
-use mathlib.Core.List.{List, [], ◌∷◌}
-use lib.Dec.{eqb}
+use Rattle.std.proofs.Common.{ℕ, zero, suc, ◌+◌, ◌*◌, ◌≤◌, ◌<◌, div-add-mod', mod-lt, arith, ◌≡◌, refl, cond, List, [], ◌∷◌, eqb}
 use Rattle.model.specs.Picture.{Word}
 use Rattle.model.specs.Shape.{wide, all_offered, start, least_free, item_size, end_of}
 use Rattle.model.proofs.Sizes.{eight, page_items_bound}

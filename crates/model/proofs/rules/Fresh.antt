@@ -1,9 +1,6 @@
 -- A fresh heap: its layout is valid, so there are sound heaps.
-use Prim.Native.Nat.{ℕ, ◌+◌, ◌-◌, ◌%◌, ◌≤◌, ◌*◌}
-use mathlib.Core.Path.{◌≡◌, ap}
-use mathlib.Core.List.{List, []}
-use native.Mathlib.Omega.{arith}
-use lib.ListN.{length, length-replicate, get_or-replicate}
+use Rattle.std.proofs.Common.{ℕ, ◌+◌, ◌-◌, ◌%◌, ◌≤◌, ◌*◌, ◌≡◌, ap, List, [], arith, length}
+use Rattle.std.proofs.Math.ListN.{length-replicate, get_or-replicate}
 use Rattle.words.specs.Word.{word_at}
 use Rattle.model.specs.Picture.{draw}
 use Rattle.words.specs.Width.{Width}

@@ -1,9 +1,5 @@
 -- The hand unit's figures (document 02, viii), computed from the same definitions.
-use Prim.Native.Nat.{ℕ, ◌+◌, ◌*◌}
-use mathlib.Core.Path.{◌≡◌, refl}
-use mathlib.Core.List.{[], ◌∷◌}
-use native.Mathlib.Omega.{arith}
-use lib.ListN.{replicate}
+use Rattle.std.proofs.Common.{ℕ, ◌+◌, ◌*◌, ◌≡◌, refl, [], ◌∷◌, arith, replicate}
 use Rattle.model.specs.Shape.{index, start, least_free, least_variable, item_size, page_need, shortest, end_of, hand}
 use Rattle.model.specs.Parts.{index_tag_at, index_tag}
 use Rattle.model.specs.Layout.{free}

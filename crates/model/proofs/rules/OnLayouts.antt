@@ -1,8 +1,6 @@
 -- What a call on a sound heap answers, and the layout that it leaves: the rules of Calls on layouts alone, to compute with.
-use Prim.Native.Nat.{ℕ, zero, suc}
-use mathlib.Core.Bool.{cond, ◌&&◌}
-use mathlib.Core.Option.{Option, none, some}
-use lib.Dec.{eqb, leb}
+use Rattle.std.proofs.Common.{ℕ, zero, suc, cond, ◌&&◌, eqb, leb}
+use Rattle.std.proofs.Math.Option.{Option, none, some}
 use Rattle.model.specs.Shape.{Shape}
 use Rattle.model.specs.Layout.{Layout}
 use Rattle.model.specs.Rules.{Made, allocate, growth, find, capacity, stays}

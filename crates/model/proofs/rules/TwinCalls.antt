@@ -1,11 +1,6 @@
 -- The same call on twins answers the same and leaves twins: an allocation and a free, and here the sweep. And so on one layout in two buffers.
-use Prim.Native.Nat.{ℕ, zero, suc, ◌+◌, ◌≤◌}
-use mathlib.Core.Path.{◌≡◌, refl, sym, ap, ap₂, subst, ◌∙◌}
-use mathlib.Core.Bool.{Bool, true, false, cond}
-use mathlib.Core.List.{List, [], ◌∷◌, ◌++◌}
-use mathlib.Core.Option.{Option, none, some}
-use native.Mathlib.Omega.{arith}
-use lib.Dec.{eqb}
+use Rattle.std.proofs.Common.{ℕ, zero, suc, ◌+◌, ◌≤◌, ◌≡◌, refl, sym, ap, ap₂, subst, ◌∙◌, Bool, true, false, cond, List, [], ◌∷◌, ◌++◌, arith, eqb}
+use Rattle.std.proofs.Math.Option.{Option, none, some}
 use Rattle.words.specs.Width.{Width}
 use Rattle.model.specs.Shape.{Shape, shape, start}
 use Rattle.model.specs.Layout.{page, Block, free, used, Layout, use_size, size_of}

@@ -1,6 +1,4 @@
-use Prim.Native.Nat.{◌+◌, ◌/◌, ◌%◌}
-use native.Mathlib.Omega.{arith}
-use borrow.Author.Tests.{eqb-true, eq-eqb}
+use Rattle.std.proofs.Common.{◌+◌, ◌/◌, ◌%◌, arith, eqb-true, eq-eqb}
 use Rattle.model.proofs.same_class.Goals as goal
 
 pub returns : goal.returns

@@ -1,12 +1,6 @@
 -- Pages with no live item are given back, one after the other: what that leaves, and what it changes.
-use Prim.Native.Nat.{ℕ, zero, suc, ◌+◌, ◌≤◌}
-use mathlib.Core.Path.{◌≡◌, refl, sym, ap, subst, ◌∙◌}
-use mathlib.Core.Bool.{cond}
-use mathlib.Core.List.{List, [], ◌∷◌, ◌++◌}
-use mathlib.Core.Option.{some}
-use native.Mathlib.Omega.{arith}
-use lib.Dec.{eqb}
-use borrow.Author.Tests.{eq-eqb}
+use Rattle.std.proofs.Common.{ℕ, zero, suc, ◌+◌, ◌≤◌, ◌≡◌, refl, sym, ap, subst, ◌∙◌, cond, List, [], ◌∷◌, ◌++◌, arith, eqb, eq-eqb}
+use Rattle.std.proofs.Math.Option.{some}
 use Rattle.words.specs.Width.{Width}
 use Rattle.model.specs.Shape.{Shape, shape, start, item_size}
 use Rattle.model.specs.Parts.{first_item_at}

@@ -1,13 +1,7 @@
 -- The lists linked anew visit every free item once: so the layout with them is valid.
-use Prim.Native.Nat.{ℕ, zero, suc, ◌+◌, ◌≤◌, ◌<◌}
-use mathlib.Core.Path.{◌≡◌, refl, ap, ◌∙◌}
-use mathlib.Core.Bool.{cond}
-use mathlib.Core.List.{List, [], ◌∷◌}
-use native.Mathlib.Omega.{arith}
-use native.Mathlib.Decide.{ℕ_discrete, dec_le}
-use lib.ListN.{length, get_or}
-use lib.Dec.{eqb, leb}
-use borrow.Author.Tests.{eq-eqb, ne_eqb, le-leb, lt-leb}
+use Rattle.std.proofs.Common.{ℕ, zero, suc, ◌+◌, ◌≤◌, ◌<◌, ◌≡◌, refl, ap, ◌∙◌, cond, List, [], ◌∷◌, arith, length, get_or, eqb, leb, eq-eqb, ne_eqb, le-leb}
+use Rattle.std.proofs.Math.Decide.{ℕ_discrete, dec_le}
+use Rattle.std.proofs.lemmas.Bool.{lt-leb}
 use Rattle.model.specs.Shape.{Shape, start}
 use Rattle.model.specs.Layout.{variable, page, Block, free, used, Layout, size_of}
 use Rattle.model.specs.Sound.{times, Allowed, AllowedUse, AllAllowed, idle_in, idle_items, Valid}

@@ -1,9 +1,5 @@
 -- The bytes that a sweep leaves: the picture of each stage is drawn over those before it.
-use Prim.Native.Nat.{ℕ, zero, suc, ◌+◌, ◌%◌, ◌≤◌, ◌<◌}
-use mathlib.Core.Path.{◌≡◌, refl, sym, ap, subst, ◌∙◌}
-use mathlib.Core.List.{List, []}
-use native.Mathlib.Omega.{arith}
-use lib.ListN.{length, get_or}
+use Rattle.std.proofs.Common.{ℕ, zero, suc, ◌+◌, ◌%◌, ◌≤◌, ◌<◌, ◌≡◌, refl, sym, ap, subst, ◌∙◌, List, [], arith, length, get_or}
 use Rattle.words.specs.Word.{Bytes}
 use Rattle.words.specs.Width.{Width}
 use Rattle.model.specs.Shape.{Shape, shape, end_of}

@@ -1,13 +1,6 @@
 -- Sums over blocks, and what the statistics and the table of blocks are with one block more.
-use Prim.Native.Nat.{ℕ, zero, suc, ◌+◌, ◌-◌, ◌≤◌, ◌<◌, max, ◌*◌}
-use mathlib.Core.Path.{◌≡◌, refl, sym, ap, ap₂, ◌∙◌}
-use mathlib.Core.Bool.{Bool, true, false, cond}
-use mathlib.Core.List.{List, [], ◌∷◌, ◌++◌}
-use native.Mathlib.Omega.{arith}
-use native.Mathlib.Nat.{max-zero, zero-max}
-use lib.ListN.{length, get_or, set}
-use lib.Dec.{eqb}
-use borrow.Author.Tests.{eq-eqb, ne_eqb}
+use Rattle.std.proofs.Common.{ℕ, zero, suc, ◌+◌, ◌-◌, ◌≤◌, ◌<◌, max, ◌*◌, ◌≡◌, refl, sym, ap, ap₂, ◌∙◌, Bool, true, false, cond, List, [], ◌∷◌, ◌++◌, arith, length, get_or, set, eqb, eq-eqb, ne_eqb}
+use Rattle.std.proofs.Math.Nat.{max-zero, zero-max}
 use Rattle.words.specs.Width.{Width}
 use Rattle.model.specs.Shape.{shape, start}
 use Rattle.model.specs.Layout.{Slot, idle, held, variable, page, Block, free, used, use_size, size_of, ends}

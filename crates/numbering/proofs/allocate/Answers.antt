@@ -2,4 +2,4 @@ use Rattle.numbering.proofs.Telling.{told}
 use Rattle.numbering.proofs.allocate.Goals as goal
 
 pub returns : goal.returns
-returns c = told _ c.allocate.result _ _ c.allocate.ensures c.number.ensures
+returns g c = told _ c.allocate.result _ _ c.allocate.ensures c.number.ensures

@@ -2,4 +2,4 @@ use Rattle.numbering.proofs.Telling.{told}
 use Rattle.numbering.proofs.free.Goals as goal
 
 pub returns : goal.returns
-returns c = told _ c.free.result _ _ c.free.ensures c.number.ensures
+returns g c = told _ c.free.result _ _ c.free.ensures c.number.ensures

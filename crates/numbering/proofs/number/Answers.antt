@@ -1,8 +1,8 @@
 use Rattle.numbering.proofs.Telling.{number_granted, number_refused}
 use Rattle.numbering.proofs.number.Goals as goal
 
-pub returns-in-Granted : goal.returns-in-Granted
-returns-in-Granted c = number_granted _ _ c.in-Granted.is
+pub returns-in-Ok : goal.returns-in-Ok
+returns-in-Ok c = number_granted _ _ _ c.in-Ok.is c.pages.ensures
 
-pub returns-in-Refused : goal.returns-in-Refused
-returns-in-Refused c = number_refused _ _ _ c.in-Refused.is c.refused.ensures
+pub returns-in-Err : goal.returns-in-Err
+returns-in-Err c = number_refused _ _ _ c.in-Err.is c.pages-in-Err.ensures

@@ -2,4 +2,4 @@ use Rattle.numbering.proofs.Telling.{told}
 use Rattle.numbering.proofs.resize.Goals as goal
 
 pub returns : goal.returns
-returns c = told _ c.resize.result _ _ c.resize.ensures c.number.ensures
+returns g c = told _ c.resize.result _ _ c.resize.ensures c.number.ensures

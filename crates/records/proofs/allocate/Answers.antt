@@ -4,4 +4,4 @@ use Rattle.records.proofs.Calling.{called}
 use Rattle.records.proofs.allocate.Goals as goal
 
 pub returns : goal.returns
-returns c = called (λ b o. Allocates wide b c.args.size o) _ _ c.allocate-r.result _ _ c.allocate-r.ensures c.told.ensures
+returns c = called (λ b o. Allocates wide b c.args.size o) _ _ c.allocate.result _ _ c.allocate.ensures c.told.ensures

@@ -4,4 +4,4 @@ use Rattle.records.proofs.Calling.{called}
 use Rattle.records.proofs.free.Goals as goal
 
 pub returns : goal.returns
-returns c = called (λ b o. Frees wide b c.args.a o) _ _ c.free-r.result _ _ c.free-r.ensures c.told.ensures
+returns c = called (λ b o. Frees wide b c.args.a o) _ _ c.free.result _ _ c.free.ensures c.told.ensures

@@ -1,5 +1,5 @@
+use Rattle.std.proofs.Common.{rules}
 use Rattle.words.specs.Word.{word_at}
-use borrow.Author.Rules.{rules}
 use Rattle.records.proofs.number.Goals as goal
 
 pub returns : goal.returns

@@ -4,4 +4,4 @@ use Rattle.records.proofs.Calling.{called}
 use Rattle.records.proofs.resize.Goals as goal
 
 pub returns : goal.returns
-returns c = called (λ b o. Resizes wide b c.args.a c.args.size o) _ _ c.resize-r.result _ _ c.resize-r.ensures c.told.ensures
+returns c = called (λ b o. Resizes wide b c.args.a c.args.size o) _ _ c.resize.result _ _ c.resize.ensures c.told.ensures

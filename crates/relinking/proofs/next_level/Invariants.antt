@@ -1,9 +1,5 @@
-use Rattle.relinking.specs.Relink.{NextLevel}
-use Prim.Native.Nat.{◌-◌}
+use Rattle.relinking.proofs.Rising.{Least}
 use Rattle.relinking.proofs.next_level.Given as goal
 
-abbrev pub invariant-loop-i : goal.invariant-loop-i
-invariant-loop-i l = NextLevel l.table l.i l.k l.most l.next
-
-abbrev pub decreases-loop-i : goal.decreases-loop-i
-decreases-loop-i l = l.m - l.i
+abbrev pub invariant-loop-e : goal.invariant-loop-e
+invariant-loop-e l = Least l.table l.e-index l.k l.most l.next

@@ -1,17 +1,17 @@
 use Rattle.engine.proofs.FreeLaws.{free_none, item_in, free_item, block_used, free_block}
 use Rattle.engine.proofs.free.free.Goals as goal
 
+pub returns-in_err-at : goal.returns-in_err-at
+returns-in_err-at g c = rw c.from_residual.ensures (free_none _ c.requires c.in_err-at.ensures)
+
 pub give-requires : goal.give-requires
-give-requires c = item_in _ _ c.requires _ c.find-x.ensures _ _ _ c.in-Item.is
+give-requires g c = item_in _ c.requires _ _ _ (rw c.in-Item.is at c.in_ok-at.ensures)
 
 pub release-requires : goal.release-requires
-release-requires c = block_used _ _ c.requires _ c.find-x.ensures _ c.in-Variable.is
-
-pub returns-in-Nothing : goal.returns-in-Nothing
-returns-in-Nothing c = free_none _ _ c.requires _ c.find-x.ensures c.in-Nothing.is
+release-requires g c = block_used _ c.requires (rw c.in-Variable.is at c.in_ok-at.ensures)
 
 pub returns-in-Item : goal.returns-in-Item
-returns-in-Item c = free_item _ _ c.requires _ c.find-x.ensures _ _ _ c.in-Item.is _ c.give.ensures
+returns-in-Item g c = free_item _ c.requires _ _ _ (rw c.in-Item.is at c.in_ok-at.ensures) c.give.ensures
 
 pub returns-in-Variable : goal.returns-in-Variable
-returns-in-Variable c = free_block _ _ c.requires _ c.find-x.ensures _ c.in-Variable.is _ c.release.ensures
+returns-in-Variable g c = free_block _ c.requires (rw c.in-Variable.is at c.in_ok-at.ensures) c.release.ensures

@@ -1,34 +1,15 @@
 use Rattle.std.proofs.Common.{◌+◌, ◌<◌, ◌≤◌, arith}
 use Rattle.model.specs.Shape.{shape, least_free}
-use Rattle.model.proofs.Sizes.{page_product}
-use Rattle.marking.proofs.PageLaws.{page_tiny, page_misfit, page_fits, page_stop, page_room, page_items, page_near, page_told}
+use Rattle.marking.proofs.PageLaws.{page_tiny, page_misfit, page_fits, page_told}
 use Rattle.marking.proofs.pages.mark_page.Goals as goal
 
 pub returns-then-s-least_free : goal.returns-then-s-least_free
-returns-then-s-least_free c = page_tiny c.requires (omega (arith, c.least_free.ensures, c.if-s-least_free.true)) _
+returns-then-s-least_free g c = page_tiny c.requires (omega (arith, c.least_free.ensures, c.if-s-least_free.true)) _
 
 pub returns-then-least_free-wrapping_sub_usize : goal.returns-then-least_free-wrapping_sub_usize
-returns-then-least_free-wrapping_sub_usize c = page_misfit c.requires _ _ _ _ c.first_item_at-first.ensures c.word.ensures c.class_in-c.ensures.0 c.page_need-need.ensures _ c.wrapping_sub_usize.ensures.value (omega (arith, c.wrapping_sub_usize.type_inv)) (omega (arith, c.least_free-2.ensures, c.if-least_free-wrapping_sub_usize.true)) _
-
-pub overflow_mul-stop : goal.overflow_mul-stop
-overflow_mul-stop c = omega (arith, page_product c.requires.width c.class_in-c.result _ _ c.class_in-c.ensures.1 c.items_in_page-items.ensures c.item_size.ensures)
-
-pub overflow_add-stop : goal.overflow_add-stop
-overflow_add-stop c =
-    let fits : (c.page_need-need.result ≤ c.args.s) × (c.args.s < c.page_need-need.result + least_free (shape c.args.w)) = page_fits c.requires _ _ _ _ c.first_item_at-first.ensures c.word.ensures c.class_in-c.ensures.0 c.page_need-need.ensures _ c.wrapping_sub_usize.ensures.value (omega (arith, c.wrapping_sub_usize.type_inv)) (omega (arith, c.least_free-2.ensures, c.if-least_free-wrapping_sub_usize.false)) in
-    omega (arith, page_stop c.requires _ _ _ _ c.first_item_at-first.ensures c.word.ensures c.class_in-c.ensures.0 c.page_need-need.ensures _ _ c.items_in_page-items.ensures c.item_size.ensures fits.0 _ _ c.offset_of.ensures c.offset_bit-i.ensures)
-
-pub mark_items-t-requires : goal.mark_items-t-requires
-mark_items-t-requires c =
-    let fits : (c.page_need-need.result ≤ c.args.s) × (c.args.s < c.page_need-need.result + least_free (shape c.args.w)) = page_fits c.requires _ _ _ _ c.first_item_at-first.ensures c.word.ensures c.class_in-c.ensures.0 c.page_need-need.ensures _ c.wrapping_sub_usize.ensures.value (omega (arith, c.wrapping_sub_usize.type_inv)) (omega (arith, c.least_free-2.ensures, c.if-least_free-wrapping_sub_usize.false)) in
-    page_room c.requires _ _ _ _ c.first_item_at-first.ensures c.word.ensures c.class_in-c.ensures.0 c.page_need-need.ensures _ _ c.items_in_page-items.ensures c.item_size.ensures fits.0 _ _ c.offset_of.ensures c.offset_bit-i.ensures
-
-pub judge-requires : goal.judge-requires
-judge-requires c =
-    let fits : (c.page_need-need.result ≤ c.args.s) × (c.args.s < c.page_need-need.result + least_free (shape c.args.w)) = page_fits c.requires _ _ _ _ c.first_item_at-first.ensures c.word.ensures c.class_in-c.ensures.0 c.page_need-need.ensures _ c.wrapping_sub_usize.ensures.value (omega (arith, c.wrapping_sub_usize.type_inv)) (omega (arith, c.least_free-2.ensures, c.if-least_free-wrapping_sub_usize.false)) in
-    (page_items c.requires _ _ _ _ c.first_item_at-first.ensures c.word.ensures c.class_in-c.ensures.0 c.page_need-need.ensures _ _ c.items_in_page-items.ensures c.item_size.ensures fits.0 _ _ c.offset_of.ensures c.offset_bit-i.ensures, page_near c.requires _ _ _ _ c.first_item_at-first.ensures c.word.ensures c.class_in-c.ensures.0 c.page_need-need.ensures _ _ c.items_in_page-items.ensures c.item_size.ensures fits.0 _ _ c.offset_of.ensures c.offset_bit-i.ensures _ _ c.mark_items-t.ensures)
+returns-then-least_free-wrapping_sub_usize g c = page_misfit c.requires _ _ _ _ c.first_item_at-first.ensures c.word.ensures c.class_in-c.ensures.0 c.page_need-need.ensures _ c.wrapping_sub_usize.ensures.value (omega (arith, c.wrapping_sub_usize.type_inv)) (omega (arith, c.least_free-2.ensures, c.if-least_free-wrapping_sub_usize.true)) _
 
 pub returns : goal.returns
-returns c =
-    let fits : (c.page_need-need.result ≤ c.args.s) × (c.args.s < c.page_need-need.result + least_free (shape c.args.w)) = page_fits c.requires _ _ _ _ c.first_item_at-first.ensures c.word.ensures c.class_in-c.ensures.0 c.page_need-need.ensures _ c.wrapping_sub_usize.ensures.value (omega (arith, c.wrapping_sub_usize.type_inv)) (omega (arith, c.least_free-2.ensures, c.if-least_free-wrapping_sub_usize.false)) in
-    page_told c.requires _ _ _ _ c.first_item_at-first.ensures c.word.ensures c.class_in-c.ensures.0 c.page_need-need.ensures _ _ c.items_in_page-items.ensures c.item_size.ensures fits.0 _ _ c.offset_of.ensures c.offset_bit-i.ensures _ _ c.mark_items-t.ensures fits.1 _ c.judge.ensures
+returns g c =
+    let fits : (c.page_need-need.result ≤ c.args.s) × (c.args.s < c.page_need-need.result + least_free (shape g.W.Width.BYTES)) = page_fits c.requires _ _ _ _ c.first_item_at-first.ensures c.word.ensures c.class_in-c.ensures.0 c.page_need-need.ensures _ c.wrapping_sub_usize.ensures.value (omega (arith, c.wrapping_sub_usize.type_inv)) (omega (arith, c.least_free-2.ensures, c.if-least_free-wrapping_sub_usize.false)) in
+    page_told c.requires _ _ _ _ c.first_item_at-first.ensures c.word.ensures c.class_in-c.ensures.0 c.page_need-need.ensures _ _ c.items_in_page-items.ensures c.item_size.ensures fits.0 _ _ c.offset_of.ensures c.offset_bit-i.ensures _ _ (rw c.BYTES.ensures at c.mark_items-t.ensures) fits.1 _ c.judge.ensures

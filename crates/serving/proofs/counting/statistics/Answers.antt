@@ -1,17 +1,14 @@
-use mathlib.Core.List.{[]}
+use Rattle.std.proofs.Common.{[]}
+use Rattle.model.specs.Shape.{shape}
+use Rattle.model.specs.Calls.{Counts}
+use Rattle.serving.specs.Counting.{told_counted}
 use Rattle.model.specs.Reading.{counted}
-use Rattle.serving.proofs.Readied.{holding, may_take, ready_as}
-use Rattle.serving.proofs.Answering.{tells_refusal, tells_answer}
+use Rattle.examining.proofs.Examining.{passed_on, refuses}
+use Rattle.serving.proofs.Answering.{tells_answer}
 use Rattle.serving.proofs.counting.statistics.Goals as goal
 
-pub heap_of-requires : goal.heap_of-requires
-heap_of-requires c = may_take c.requires _ (holding c.requires _ _ c.examine-v.ensures c.in-Fine.is)
+pub returns-in_err-examine : goal.returns-in_err-examine
+returns-in_err-examine g c = passed_on (λ r. Counts (shape g.W.Width.BYTES) c.args.h.now (told_counted r)) _ _ c.from_residual.ensures.1 (refuses _ _ _ _ _ _ c.examine.ensures c.in_err-examine.was)
 
-pub count-s-requires : goal.count-s-requires
-count-s-requires c = (c.requires, (ready_as c.requires _ (holding c.requires _ _ c.examine-v.ensures c.in-Fine.is) _ c.heap_of.ensures).sound)
-
-pub returns-in-Unfit : goal.returns-in-Unfit
-returns-in-Unfit c = tells_refusal _ _ (counted []) (λ L. counted L.blocks) _ c.examine-v.ensures _ c.in-Unfit.is _ c.refusal_number-n.ensures.0 _ c.nothing_counted-s.ensures
-
-pub returns-in-Fine : goal.returns-in-Fine
-returns-in-Fine c = tells_answer _ _ (counted []) (λ L. counted L.blocks) _ c.examine-v.ensures c.in-Fine.is _ c.heap_of.ensures _ c.count-s.ensures
+pub returns : goal.returns
+returns g c = tells_answer _ _ (counted []) (λ L. counted L.blocks) _ c.examine.ensures c.in_ok-examine.was _ c.count.ensures

@@ -1,18 +1,10 @@
-use Rattle.serving.proofs.Readied.{holding, may_take, ready_as}
-use Rattle.serving.proofs.Answering.{held_refused, held_none, held_some}
+use Rattle.examining.proofs.Examining.{passed_on}
+use Rattle.serving.specs.Lookup.{HeldTold}
+use Rattle.serving.proofs.Answering.{held_refused, held}
 use Rattle.serving.proofs.lookup.held_at.Goals as goal
 
-pub heap_of-requires : goal.heap_of-requires
-heap_of-requires c = may_take c.requires _ (holding c.requires _ _ c.examine-v.ensures c.in-Fine.is)
+pub returns-in_err-heap : goal.returns-in_err-heap
+returns-in_err-heap g c = passed_on (λ r. HeldTold g.W.Width.BYTES c.args.h.now c.args.a.0 r) _ _ c.from_residual.ensures.1 (held_refused _ _ _ _ c.examine.ensures _ c.in_err-heap.was)
 
-pub shown-n-requires : goal.shown-n-requires
-shown-n-requires c = (c.requires, (ready_as c.requires _ (holding c.requires _ _ c.examine-v.ensures c.in-Fine.is) _ c.heap_of.ensures).sound)
-
-pub returns-then-n-eq0 : goal.returns-then-n-eq0
-returns-then-n-eq0 c = held_none _ _ _ _ c.examine-v.ensures c.in-Fine.is _ c.heap_of.ensures _ c.shown-n.ensures c.if-n-eq0.true _ c.refusal_number-k.ensures.0
-
-pub returns-in-Unfit : goal.returns-in-Unfit
-returns-in-Unfit c = held_refused _ _ _ _ c.examine-v.ensures _ c.in-Unfit.is _ c.refusal_number-n.ensures.0
-
-pub returns-else-n-eq0 : goal.returns-else-n-eq0
-returns-else-n-eq0 c = held_some _ _ _ _ c.examine-v.ensures c.in-Fine.is _ c.heap_of.ensures _ c.shown-n.ensures c.if-n-eq0.false
+pub returns : goal.returns
+returns g c = held _ _ _ _ c.examine.ensures c.in_ok-heap.was _ (rw c.heap.view_is at c.shown.ensures) _ c.ok_or.ensures.value

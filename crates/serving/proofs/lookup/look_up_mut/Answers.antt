@@ -1,16 +1,17 @@
-use Rattle.serving.proofs.Answering.{part_none, part_some, part_full}
-use native.Mathlib.Omega.{arith}
-use borrow.Author.Rules.{rules}
+use Rattle.std.proofs.Common.{arith, rules}
+use Rattle.examining.proofs.Examining.{passed_on}
+use Rattle.serving.specs.Lookup.{PartMut}
+use Rattle.serving.proofs.Answering.{no_part, part_bytes, part_some}
 use Rattle.serving.proofs.lookup.look_up_mut.Goals as goal
 
-pub returns-then-n-eq0 : goal.returns-then-n-eq0
-returns-then-n-eq0 c = record { bytes = part_none _ c.held_at-x.ensures c.if-n-eq0.true; same = search rules; place = λ z. omega arith; empty = λ z. search rules }
+pub returns-in_err-n : goal.returns-in_err-n
+returns-in_err-n g c = passed_on (λ r. PartMut g.W.Width.BYTES c.args.h c.args.a.0 r) _ _ c.from_residual.ensures.1 (no_part _ _ c.in_err-n.ensures)
 
 pub overflow_add-result : goal.overflow_add-result
-overflow_add-result c = omega (arith, c.held_at-x.ensures.within c.if-n-eq0.false)
+overflow_add-result g c = omega (arith, c.in_ok-n.ensures.3)
 
-pub slice_bounds-h-end-2 : goal.slice_bounds-h-end-2
-slice_bounds-h-end-2 c = omega (arith, c.held_at-x.ensures.within c.if-n-eq0.false)
+pub slice_bounds-h-end : goal.slice_bounds-h-end
+slice_bounds-h-end g c = omega (arith, c.in_ok-n.ensures.3)
 
 pub returns : goal.returns
-returns c = record { bytes = part_some _ c.held_at-x.ensures; same = search rules; place = λ z. search rules; empty = λ z. absurd (part_full _ c.held_at-x.ensures c.if-n-eq0.false z) }
+returns g c = record { bytes = part_bytes _ _ c.in_ok-n.ensures; granted = c.in_ok-n.ensures.1; some_byte = part_some _ _ c.in_ok-n.ensures; same = search rules; place = search rules }

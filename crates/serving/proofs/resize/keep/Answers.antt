@@ -1,16 +1,17 @@
-use Rattle.examining.proofs.Examining.{sized_refuses, sized_decides}
-use Rattle.serving.proofs.Readied.{holding_for, may_take, ready_as}
+use Rattle.std.proofs.Common.{◌∙◌}
+use Rattle.model.specs.Shape.{shape}
+use Rattle.model.specs.Calls.{Keeps}
+use Rattle.serving.specs.Answers.{outcome}
+use Rattle.examining.proofs.Examining.{passed_on, fine_for, sized_refuses, sized_decides}
+use Rattle.serving.proofs.Readied.{holding_for, ready_as}
 use Rattle.serving.proofs.Resizing.{keeps}
 use Rattle.serving.proofs.resize.keep.Goals as goal
 
-pub heap_of-requires : goal.heap_of-requires
-heap_of-requires c = may_take c.requires _ (holding_for c.requires _ _ _ c.examine_for-v.ensures c.in-Fine.is).0
+pub keep-requires : goal.keep-requires
+keep-requires g c = rw c.heap.view_is (ready_as g.met.W.Width.width _ (holding_for g.met.W.Width.width _ _ _ c.examine_for.ensures c.in_ok-heap.was).0 _ (fine_for _ _ _ _ c.examine_for.ensures c.in_ok-heap.was).0.1)
 
-pub keep-t-requires : goal.keep-t-requires
-keep-t-requires c = ready_as c.requires _ (holding_for c.requires _ _ _ c.examine_for-v.ensures c.in-Fine.is).0 _ c.heap_of.ensures
+pub returns-in_err-heap : goal.returns-in_err-heap
+returns-in_err-heap g c = passed_on (λ r. Keeps (shape g.W.Width.BYTES) c.args.h.now c.args.a.0 c.args.n (outcome r c.args.h.now)) _ _ c.from_residual.ensures.1 (sized_refuses _ _ _ _ _ _ c.examine_for.ensures c.in_err-heap.was)
 
-pub returns-in-Unfit : goal.returns-in-Unfit
-returns-in-Unfit c = sized_refuses _ _ _ _ _ _ c.examine_for-v.ensures c.in-Unfit.is
-
-pub returns-in-Fine : goal.returns-in-Fine
-returns-in-Fine c = sized_decides _ _ _ _ _ c.examine_for-v.ensures c.in-Fine.is _ (λ L h. keeps _ _ _ _ L _ c.heap_of.ensures h _ _ c.keep-t.ensures c.resized_or_not.ensures)
+pub returns : goal.returns
+returns g c = sized_decides _ _ _ _ _ c.examine_for.ensures c.in_ok-heap.was _ (λ L h. keeps _ _ _ _ L _ (c.heap.view_is ∙ (fine_for _ _ _ _ c.examine_for.ensures c.in_ok-heap.was).0.1) h _ c.keep.ensures)

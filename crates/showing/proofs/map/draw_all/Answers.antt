@@ -1,6 +1,9 @@
-use native.Mathlib.Omega.{arith}
-use Rattle.showing.proofs.ShowingLaws.{walk_first}
+use Rattle.std.proofs.Common.{arith}
+use Rattle.reading.proofs.IterLaws.{turn_read}
 use Rattle.showing.proofs.map.draw_all.Goals as goal
 
-pub loop-p-init : goal.loop-p-init
-loop-p-init g c = (walk_first c.requires.0 _ _ c.start-p.ensures c.requires.1, c.end_of-end.ensures, omega arith)
+pub loop-block-init : goal.loop-block-init
+loop-block-init g c = (rw (c.into_iter-block-iterator.ensures.into_iter_gives, c.heap.view_is) c.blocks-block-items.ensures.0, omega arith)
+
+pub block_mark-requires : goal.block_mark-requires
+block_mark-requires g c = turn_read c.loop-block.invariant.0 c.in-Some.ensures.steps

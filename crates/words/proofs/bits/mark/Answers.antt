@@ -1,7 +1,4 @@
-use Prim.Native.Nat.{◌%◌}
-use native.Mathlib.Omega.{arith}
-use mathlib.Core.Path.{refl}
-use borrow.Author.Rules.{rules}
+use Rattle.std.proofs.Common.{◌%◌, arith, refl, rules}
 use Rattle.words.specs.Bits.{marked}
 use Rattle.words.proofs.BitLaws.{one_shifted, mark_fits}
 use Rattle.words.proofs.bits.mark.Goals as goal

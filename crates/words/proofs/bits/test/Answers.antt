@@ -1,5 +1,5 @@
+use Rattle.std.proofs.Common.{refl}
 use Rattle.words.specs.Bits.{bit_at}
-use mathlib.Core.Path.{refl}
 use Rattle.words.proofs.bits.test.Goals as goal
 
 pub returns : goal.returns

@@ -1,4 +1,4 @@
-use native.Mathlib.Omega.{arith}
+use Rattle.std.proofs.Common.{arith}
 use Rattle.words.proofs.CopyLaws.{copy_start, copy_turn, copy_done}
 use Rattle.words.proofs.bytes.copy_bytes.Goals as goal
 

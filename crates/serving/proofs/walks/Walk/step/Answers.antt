@@ -1,17 +1,16 @@
+use Rattle.model.specs.Calls.{Steps}
+use Rattle.serving.specs.Walking.{told_step}
 use Rattle.model.specs.Shape.{shape}
 use Rattle.model.specs.Reading.{ended, step}
-use Rattle.serving.proofs.Readied.{holding, may_take, ready_as}
-use Rattle.serving.proofs.Answering.{tells_refusal, tells_answer, stays_there}
+use Rattle.examining.proofs.Examining.{passed_on, refuses}
+use Rattle.serving.proofs.Answering.{tells_answer}
 use Rattle.serving.proofs.walks.Walk.step.Goals as goal
 
-pub heap_of-requires : goal.heap_of-requires
-heap_of-requires c = may_take c.requires _ (holding c.requires _ _ c.examine-v.ensures c.in-Fine.is)
+pub returns-in_err-examine : goal.returns-in_err-examine
+returns-in_err-examine g c = passed_on (λ r. Steps (shape g.W.Width.BYTES) c.args.h.now c.args.self.at.0 (told_step g.W.Width.BYTES c.args.self.at.0 r)) _ _ c.from_residual.ensures.1 (refuses _ _ _ _ _ _ c.examine.ensures c.in_err-examine.was)
 
-pub meet-b-requires : goal.meet-b-requires
-meet-b-requires c = (c.requires, (ready_as c.requires _ (holding c.requires _ _ c.examine-v.ensures c.in-Fine.is) _ c.heap_of.ensures).sound)
+pub returns-in_default : goal.returns-in_default
+returns-in_default g c = tells_answer _ _ (ended (shape g.W.Width.BYTES) _) (λ L. step (shape g.W.Width.BYTES) _ L) _ c.examine.ensures c.in_ok-examine.was _ c.in_default.ensures.answer
 
-pub returns-in-Unfit : goal.returns-in-Unfit
-returns-in-Unfit c = tells_refusal _ _ (ended (shape c.args.w) _) (λ L. step (shape c.args.w) _ L) _ c.examine-v.ensures _ c.in-Unfit.is _ c.refusal_number-n.ensures.0 _ (stays_there (shape c.args.w) _ c.no_block-b.result (c.no_block-b.ensures.1 c.args.w _))
-
-pub returns-in-Fine : goal.returns-in-Fine
-returns-in-Fine c = tells_answer _ _ (ended (shape c.args.w) _) (λ L. step (shape c.args.w) _ L) _ c.examine-v.ensures c.in-Fine.is _ c.heap_of.ensures _ c.meet-b.ensures.answer
+pub returns : goal.returns
+returns g c = tells_answer _ _ (ended (shape g.W.Width.BYTES) _) (λ L. step (shape g.W.Width.BYTES) _ L) _ c.examine.ensures c.in_ok-examine.was _ c.in-Some.ensures.answer
