@@ -2,6 +2,7 @@
 // What follows from the width is folded away, since a program names it.
 #![tactic(auto)]
 
+pub mod by_number;
 pub mod refusals;
 
 ghost use Rattle.std.specs.Prelude.{◌≡◌, true, ◌+◌, ◌*◌, ◌≤◌, ◌<◌, ◌^◌};
@@ -48,7 +49,7 @@ pub fn position_of<W: Width>(a: Address) -> Position
     requires { W.BYTES ≤ a.0 }
     ensures { result.0 ≡ position_of (shape W.BYTES) a.0 }
 {
-    Position(a.0 - W::BYTES)
+    by_number::position_of(W::BYTES, a)
 }
 
 // The item offset of the item whose header stands at p.
@@ -83,11 +84,7 @@ pub const MAGIC_BYTES: usize = 8;
 pub fn magic<W: Width>() -> usize
     ensures { result ≡ (shape W.BYTES).magic }
 {
-    if W::BYTES == WIDE {
-        0x01636f6c6c617978
-    } else {
-        0x02636f6c6c617978
-    }
+    by_number::magic(W::BYTES)
 }
 
 // The shortest and the longest heap; the largest size that can be asked for is the same as the latter.
@@ -103,7 +100,7 @@ pub const MOST_BYTES: usize = 1048576;
 pub fn longest<W: Width>() -> usize
     ensures { result ≡ (shape W.BYTES).most }
 {
-    if W::BYTES == WIDE { MOST_BYTES } else { 65536 }
+    by_number::longest(W::BYTES)
 }
 
 // How many pages a table has entries for: an array's length is a constant. Every heap has fewer than the last has; at 8 bytes a word the second is enough too.
@@ -118,14 +115,14 @@ pub fn paged_bytes<W: Width>(n: usize) -> usize
     requires { n < 2 ^ 32 }
     ensures { result ≡ n * least_page W.BYTES }
 {
-    if W::BYTES == WIDE { n * 4096 } else { n * 32 }
+    by_number::paged_bytes(W::BYTES, n)
 }
 
 // Whether a heap may end before its buffer does, and grow; the furthest end in a buffer of n bytes.
 pub fn grows<W: Width>() -> bool
     ensures { result ≡ (shape W.BYTES).grows }
 {
-    W::BYTES == WIDE
+    by_number::grows(W::BYTES)
 }
 
 pub fn end_of(n: usize) -> Position
@@ -138,7 +135,7 @@ pub fn end_of(n: usize) -> Position
 pub fn data_at<W: Width>() -> Position
     ensures { result.0 ≡ data_at (shape W.BYTES) }
 {
-    Position(8)
+    by_number::data_at(W::BYTES)
 }
 
 pub fn index_at<W: Width>() -> Position
@@ -204,7 +201,7 @@ pub fn classes<W: Width>() -> usize
 pub fn offered<W: Width>() -> usize
     ensures { result ≡ (shape W.BYTES).offered }
 {
-    16
+    by_number::offered(W::BYTES)
 }
 
 pub fn head_at<W: Width>(c: usize) -> Position
@@ -239,14 +236,14 @@ pub fn far_tag_at<W: Width>(p: Position, s: usize) -> Position
     requires { (W.BYTES ≤ p.0 + s) × (p.0 + s < 2 ^ 64) }
     ensures { result.0 ≡ far_tag_at (shape W.BYTES) p.0 s }
 {
-    Position(p.0 + s - W::BYTES)
+    by_number::far_tag_at(W::BYTES, p, s)
 }
 
 pub fn next_at<W: Width>(p: Position) -> Position
     requires { p.0 + W.BYTES < 2 ^ 64 }
     ensures { result.0 ≡ next_at (shape W.BYTES) p.0 }
 {
-    Position(p.0 + W::BYTES)
+    by_number::next_at(W::BYTES, p)
 }
 
 pub fn previous_at<W: Width>(p: Position, s: usize) -> Position
@@ -260,7 +257,7 @@ pub fn first_item_at<W: Width>(p: Position) -> Position
     requires { p.0 + W.BYTES < 2 ^ 64 }
     ensures { result.0 ≡ first_item_at (shape W.BYTES) p.0 }
 {
-    Position(p.0 + W::BYTES)
+    by_number::first_item_at(W::BYTES, p)
 }
 
 // The least free block, and the least remainder that stays free; the least variable block; the largest item that is handed out.
