@@ -54,11 +54,15 @@ list_head {w} wd {b} {end} {c} {o} f = list_no (λ s r. go r.list r.chain)
     go [] h = f (zero_even wd o h)
     go (x ∷ xs) h = f (rw h.0 h.1.even)
 
--- a list whose head o was read begins at the item of bit i
-pub list_start : {w : ℕ} → Width w → {b : List ℕ} {end c : ℕ} {m : List ℕ} {n i : ℕ} (o p q : ℕ) → o ≡ word_at w b p → p ≡ q → o % w ≡ 0 → i ≡ offset_bit w o → ListInv w b end c (word_at w b q) m n n i
-list_start {w} wd {b} o p q eo ep e ei =
+-- a list with head o begins at the item of bit i
+pub list_start : {w : ℕ} → Width w → {b : List ℕ} {end c o : ℕ} {m : List ℕ} {n i : ℕ} → o % w ≡ 0 → i ≡ offset_bit w o → ListInv w b end c o m n n i
+list_start {w} wd {b} {end} {c} {o} e ei =
     let f : offset_at_bit w (offset_bit w o) ≡ o = offset_back wd o e in
-    rw (← (eo ∙ ap (λ (x : ℕ). word_at w b x) ep), ei) (record { width = wd; ahead = λ s r. rw f r; back = λ _ s r. rw f at r })
+    rw ei (record { width = wd; ahead = λ s r. rw f r; back = λ _ s r. rw f at r })
+
+-- and one whose head o was read
+pub list_begins : {w : ℕ} → Width w → {b : List ℕ} {end c : ℕ} {m : List ℕ} {n i : ℕ} (o p q : ℕ) → o ≡ word_at w b p → p ≡ q → o % w ≡ 0 → i ≡ offset_bit w o → ListInv w b end c (word_at w b q) m n n i
+list_begins {w} wd {b} o p q eo ep e ei = rw (← (eo ∙ ap (λ (x : ℕ). word_at w b x) ep)) (list_start wd e ei)
 
 module _ {w : ℕ} {b : List ℕ} {end c o : ℕ} {m : List ℕ} {before n i : ℕ} (v : ListInv w b end c o m before n i) where
   pub list_done : i ≡ 0 → ListTold w b end c o m before (Some n)

@@ -1,6 +1,6 @@
 use Rattle.words.specs.Bits.{bit_at}
 use Rattle.std.proofs.Common.{◌≡◌, arith}
-use Rattle.following.proofs.ListLaws.{list_from, list_none, list_head, list_start, list_done, list_more, list_clear, list_over, list_turn}
+use Rattle.following.proofs.ListLaws.{list_from, list_none, list_head, list_begins, list_done, list_more, list_clear, list_over, list_turn}
 use Rattle.marking.proofs.MapLaws.{bit_set, no_mark, marked_inside}
 use Rattle.marking.proofs.Places.{bits_less, map_end_bound}
 use Rattle.following.proofs.count_list.Goals as goal
@@ -12,7 +12,7 @@ pub returns-then-head-BYTES-ne0 : goal.returns-then-head-BYTES-ne0
 returns-then-head-BYTES-ne0 g c = list_from _ _ _ c.word.ensures c.head_at.ensures.0 (list_head c.requires.0.sizes.width (rw c.BYTES.ensures at c.if-head-BYTES-ne0.true))
 
 pub loop-i-init : goal.loop-i-init
-loop-i-init g c = list_start c.requires.0.sizes.width _ _ _ c.word.ensures c.head_at.ensures.0 (rw c.BYTES.ensures at c.if-head-BYTES-ne0.false) c.offset_bit-i.ensures
+loop-i-init g c = list_begins c.requires.0.sizes.width _ _ _ c.word.ensures c.head_at.ensures.0 (rw c.BYTES.ensures at c.if-head-BYTES-ne0.false) c.offset_bit-i.ensures
 
 pub returns-then-top-i : goal.returns-then-top-i
 returns-then-top-i g c = list_clear c.loop-i.invariant (λ e. omega (arith, e, c.if-top-i.true, c.requires.0.map.some)) (no_mark _ _ c.if-top-i.true)
