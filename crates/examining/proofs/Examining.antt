@@ -1,5 +1,5 @@
 -- What each way through the examination shows, and what follows from its answer for a call's contract.
-use Rattle.std.specs.Prelude.{Result, Ok, Err}
+use Rattle.std.specs.Prelude.{⊤, Result, Ok, Err}
 use Rattle.std.proofs.Common.{ℕ, ◌-◌, ◌≤◌, ◌≡◌, refl, ap, sym, subst, ◌∙◌, Bool, true, false, ◌⊎◌, inl, inr, List, IsErrAnd, arith, length, take, length-take-le}
 use Rattle.words.specs.Width.{Width}
 use Rattle.words.specs.Word.{word_at}
@@ -17,7 +17,7 @@ use Rattle.telling.proofs.Tellings.{clash}
 use Rattle.model.specs.declared.refusals.Refusal.{Refusal}
 use Rattle.model.specs.declared.refusals.Refusal.TheVariants.{BadLength, NotOpened, NotSound, BadSize, NotLive, NoRoom, AlreadyOpened, BadEnd}
 use Rattle.model.specs.Refused.{refusal_number}
-use Rattle.examining.specs.Examined.{UnfitFor, Examined, ExaminedFor}
+use Rattle.examining.specs.Examined.{UnfitFor, Examined, Judged, ExaminedFor}
 
 -- what `?` hands on is the same refusal
 pub passed_on : {A : Type 0} (P : Result A Refusal → Type 0) (r : Result A Refusal) (k : Refusal) → IsErrAnd r (λ e. e ≡ k) → P (Err k) → P r
@@ -29,23 +29,23 @@ from_start : (x : ℕ) → x - 0 ≡ x
 from_start x = omega arith
 
 module _ (w : ℕ) (b : List ℕ) where
-  pub examined_length : (Lent (shape w) b → ⊥) → Examined w b (Err BadLength)
-  unfolding Examined UnfitFor
-  examined_length n = n
+  pub judged_length : (Lent (shape w) b → ⊥) → Judged w b (Err BadLength)
+  unfolding Judged UnfitFor
+  judged_length n = n
 
   module _ (l : Lent (shape w) b) (m : ℕ) (e : m ≡ word_at magic_bytes b 0) where
-    pub examined_word : (m ≡ (shape w).magic → ⊥) → Examined w b (Err NotOpened)
-    unfolding Examined UnfitFor
-    examined_word n = (l, λ o. n (e ∙ o))
+    pub judged_word : (m ≡ (shape w).magic → ⊥) → Judged w b (Err NotOpened)
+    unfolding Judged UnfitFor
+    judged_word n = (l, λ o. n (e ∙ o))
 
     -- the end that is named is none
-    pub examined_end : m ≡ (shape w).magic → (x : ℕ) → x ≡ stored_end (shape w) b → (r : Bool) → Tells r (MayEnd (shape w) (length b) x) → r ≡ false → Examined w b (Err NotSound)
-    unfolding Examined UnfitFor
-    examined_end i x k r t f = (l, sym e ∙ i, λ s. clash r f (t.is_yes (subst (λ (y : ℕ). MayEnd (shape w) (length b) y) (sym k) s.here.ended)))
+    pub judged_end : m ≡ (shape w).magic → (x : ℕ) → x ≡ stored_end (shape w) b → (r : Bool) → Tells r (MayEnd (shape w) (length b) x) → r ≡ false → Judged w b (Err NotSound)
+    unfolding Judged UnfitFor
+    judged_end i x k r t f = (l, sym e ∙ i, λ s. clash r f (t.is_yes (subst (λ (y : ℕ). MayEnd (shape w) (length b) y) (sym k) s.here.ended)))
 
-    pub examined_unsound : m ≡ (shape w).magic → (d : List ℕ) → d ≡ heap_of (shape w) b → (r : Bool) → Tells r (Sound (shape w) d) → r ≡ false → Examined w b (Err NotSound)
-    unfolding Examined UnfitFor
-    examined_unsound i d k r t f = (l, sym e ∙ i, λ s. clash r f (t.is_yes (record { layout = s.layout; here = subst (λ (y : List ℕ). Here (shape w) y s.layout) (sym k) s.here.here })))
+    pub judged_unsound : m ≡ (shape w).magic → (d : List ℕ) → d ≡ heap_of (shape w) b → (r : Bool) → Tells r (Sound (shape w) d) → r ≡ false → Judged w b (Err NotSound)
+    unfolding Judged UnfitFor
+    judged_unsound i d k r t f = (l, sym e ∙ i, λ s. clash r f (t.is_yes (record { layout = s.layout; here = subst (λ (y : List ℕ). Here (shape w) y s.layout) (sym k) s.here.here })))
 
   -- an end that may be: the part up to it is as long, and lent
   pub part_lent : Width w → Lent (shape w) b → (x : ℕ) → MayEnd (shape w) (length b) x → Lent (shape w) (take (x - 0) b)
@@ -62,11 +62,33 @@ module _ (w : ℕ) (b : List ℕ) where
       pub own_part_lent : Width w → Lent (shape w) d
       own_part_lent wd = subst (λ (y : List ℕ). Lent (shape w) y) (sym (o ∙ ap (λ (y : ℕ). take y b) (sym (from_start x ∙ k)))) (part_lent wd l x m)
 
-      pub examined_fine : (r : Bool) → Tells r (Sound (shape w) d) → r ≡ true → Examined w b (Ok d)
-      unfolding Examined
-      examined_fine r t e =
+      pub judged_fine : (r : Bool) → Tells r (Sound (shape w) d) → r ≡ true → Judged w b (Ok tt)
+      unfolding Judged
+      judged_fine r t e =
           let s = t.yes_is e in
-          ((l, record { layout = s.layout; here = record { ended = subst (λ (y : ℕ). MayEnd (shape w) (length b) y) k m; here = subst (λ (y : List ℕ). Here (shape w) y s.layout) o s.here } }), o)
+          (l, record { layout = s.layout; here = record { ended = subst (λ (y : ℕ). MayEnd (shape w) (length b) y) k m; here = subst (λ (y : List ℕ). Here (shape w) y s.layout) o s.here } })
+
+  -- a verdict, and what is lent with it
+  module _ (v : Result ⊤ Refusal) (x : Judged w b v) where
+    pub examined_unfit : (k : Refusal) → v ≡ Err k → Examined w b (Err k)
+    unfolding Examined Judged
+    examined_unfit k e = rw e at x
+
+    module _ (u : ⊤) (e : v ≡ Ok u) where
+      pub judged : Lent (shape w) b × SoundIn (shape w) b
+      unfolding Judged
+      judged = rw e at x
+
+      pub may_read : stored_end (shape w) b ≤ length b
+      may_read = omega (arith, judged.1.here.ended.1)
+
+      module _ (d : List ℕ) (o : d ≡ heap_of (shape w) b) where
+        pub own_sound : Sound (shape w) d
+        own_sound = record { layout = judged.1.layout; here = subst (λ (y : List ℕ). Here (shape w) y judged.1.layout) (sym o) judged.1.here.here }
+
+        pub examined_fine : Examined w b (Ok d)
+        unfolding Examined
+        examined_fine = (judged, o)
 
   -- a heap that is fine, and what is lent of it
   pub fine_lent : (v : Result (List ℕ) Refusal) {o : List ℕ} → Examined w b v → v ≡ Ok o → (Lent (shape w) b × SoundIn (shape w) b) × (o ≡ heap_of (shape w) b)

@@ -1,5 +1,5 @@
 -- What a call finds first, of a heap with words of w bytes.
-use Rattle.std.specs.Prelude.{ℕ, ◌≡◌, ◌⊎◌, List, Result, Ok, Err}
+use Rattle.std.specs.Prelude.{ℕ, ◌≡◌, ◌⊎◌, List, Result, Ok, Err, ⊤}
 use Rattle.model.specs.Shape.{shape}
 use Rattle.model.specs.Sound.{SoundIn, heap_of}
 use Rattle.model.specs.Calls.{Lent, Opened, GoodSize}
@@ -18,7 +18,12 @@ module _ (w : ℕ) where
   UnfitFor b AlreadyOpened = ⊥
   UnfitFor b BadEnd = ⊥
 
-  -- a heap that is fit to be read, and is lent: the buffer up to its end
+  -- a heap that is fit to be read
+  unfoldable pub Judged : List ℕ → Result ⊤ Refusal → Type 0
+  Judged b (Ok u) = Lent (shape w) b × SoundIn (shape w) b
+  Judged b (Err k) = UnfitFor b k
+
+  -- the same, and it is lent: the buffer up to its end
   unfoldable pub Examined : List ℕ → Result (List ℕ) Refusal → Type 0
   Examined b (Ok h) = (Lent (shape w) b × SoundIn (shape w) b) × (h ≡ heap_of (shape w) b)
   Examined b (Err k) = UnfitFor b k

@@ -4,7 +4,7 @@
 ghost use Rattle.model.specs.Shape.{shape};
 ghost use Rattle.model.specs.Calls.{Lent, GoodSize};
 ghost use Rattle.telling.specs.Tells.{Tells};
-ghost use Rattle.examining.specs.Examined.{Examined, ExaminedFor};
+ghost use Rattle.examining.specs.Examined.{Examined, Judged, ExaminedFor};
 
 use ending::{heap_of, may_end, stored_end};
 use model::{Refusal, longest, magic, shortest};
@@ -23,9 +23,12 @@ pub fn is_lent<W: Width>(h: &[u8]) -> bool
     h.len() <= longest::<W>()
 }
 
-// What every call but initialise finds first, a sound heap or a reason to say no: the length, the first 8 bytes, and soundness up to the end that the heap names, in that order. Who reads much of a heap asks this once, and then reads what it lends, the buffer up to that end, by the crate `reading`.
-pub fn examine<W: Width>(h: &[u8]) -> Result<SoundHeap<'_, W>, Refusal>
-    ensures { Examined W.BYTES h.now result }
+// A sound heap, or a reason to say no.
+pub type Verdict = Result<(), Refusal>;
+
+// What every call but initialise finds first: the length, the first 8 bytes, and soundness up to the end that the heap names, in that order.
+pub fn verdict<W: Width>(h: &[u8]) -> Verdict
+    ensures { Judged W.BYTES h.now result }
 {
     if !is_lent::<W>(h) {
         return Err(Refusal::BadLength);
@@ -36,10 +39,18 @@ pub fn examine<W: Width>(h: &[u8]) -> Result<SoundHeap<'_, W>, Refusal>
     if !may_end::<W>(h.len(), stored_end::<W>(h)) {
         return Err(Refusal::NotSound);
     }
-    let bytes = heap_of::<W>(h);
-    if !is_sound::<W>(bytes) {
+    if !is_sound::<W>(heap_of::<W>(h)) {
         return Err(Refusal::NotSound);
     }
+    Ok(())
+}
+
+// The same, and of a sound heap what may be read: the buffer up to its end. Who reads much of a heap asks this once, and then reads what it lends by the crate `reading`.
+pub fn examine<W: Width>(h: &[u8]) -> Result<SoundHeap<'_, W>, Refusal>
+    ensures { Examined W.BYTES h.now result }
+{
+    verdict::<W>(h)?;
+    let bytes = heap_of::<W>(h);
     Ok(SoundHeap {
         bytes,
         width: PhantomData,

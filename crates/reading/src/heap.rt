@@ -3,6 +3,7 @@ use std::marker::{Model, PhantomData};
 use words::Width;
 
 // The bytes of a sound heap, lent for reading. Where one is made it is proved sound, so what reads it asks nothing of its caller.
+#[derive_where(Clone)]
 #[derive(Drop)]
 pub struct SoundHeap<'a, W: Width> {
     pub bytes: &'a [u8],

@@ -1,58 +1,18 @@
-use Rattle.std.proofs.Common.{sym, ◌∙◌, arith, length}
-use Rattle.model.specs.Shape.{shape}
-use Rattle.model.specs.Sound.{MayEnd}
-use Rattle.model.specs.Calls.{Lent}
-use Rattle.telling.proofs.Tellings.{clash}
-use Rattle.examining.proofs.Examining.{examined_length, examined_word, examined_end, examined_unsound, examined_fine, may_lend, own_part_lent}
+use Rattle.std.proofs.Common.{arith}
+use Rattle.examining.specs.Examined.{Examined}
+use Rattle.examining.proofs.Examining.{passed_on, examined_unfit, judged, may_read, own_sound, examined_fine}
 use Rattle.examining.proofs.examine.Goals as goal
 
-pub returns-then-not-is_lent : goal.returns-then-not-is_lent
-returns-then-not-is_lent g c = examined_length _ _ (λ l. clash _ c.if-not-is_lent.true (c.is_lent.ensures.is_yes l))
-
-pub word-requires : goal.word-requires
-word-requires g c =
-    let lent : Lent (shape g.W.Width.BYTES) c.args.h.now = c.is_lent.ensures.yes_is c.if-not-is_lent.false in
-    omega (arith, lent)
-
-pub returns-then-word-magic : goal.returns-then-word-magic
-returns-then-word-magic g c =
-    let lent : Lent (shape g.W.Width.BYTES) c.args.h.now = c.is_lent.ensures.yes_is c.if-not-is_lent.false in
-    examined_word _ _ lent _ c.word.ensures (λ e. c.if-word-magic.true (e ∙ sym c.magic.ensures))
-
-pub stored_end-requires : goal.stored_end-requires
-stored_end-requires g c =
-    let lent : Lent (shape g.W.Width.BYTES) c.args.h.now = c.is_lent.ensures.yes_is c.if-not-is_lent.false in
-    let l = lent in omega (arith, l.0)
-
-pub may_end-requires : goal.may_end-requires
-may_end-requires g c =
-    let lent : Lent (shape g.W.Width.BYTES) c.args.h.now = c.is_lent.ensures.yes_is c.if-not-is_lent.false in
-    let l = lent in (l.0, l.1)
-
-pub returns-then-not-may_end : goal.returns-then-not-may_end
-returns-then-not-may_end g c =
-    let lent : Lent (shape g.W.Width.BYTES) c.args.h.now = c.is_lent.ensures.yes_is c.if-not-is_lent.false in
-    examined_end _ _ lent _ c.word.ensures (c.if-word-magic.false ∙ c.magic.ensures) _ c.stored_end.ensures _ c.may_end.ensures c.if-not-may_end.true
+pub returns-in_err-verdict : goal.returns-in_err-verdict
+returns-in_err-verdict g c = passed_on (λ r. Examined g.W.Width.BYTES c.args.h.now r) _ _ c.from_residual.ensures.1 (examined_unfit _ _ _ c.verdict.ensures _ c.in_err-verdict.was)
 
 pub heap_of-bytes-requires : goal.heap_of-bytes-requires
 heap_of-bytes-requires g c =
-    let lent : Lent (shape g.W.Width.BYTES) c.args.h.now = c.is_lent.ensures.yes_is c.if-not-is_lent.false in
-    let may : MayEnd (shape g.W.Width.BYTES) (length c.args.h.now) c.stored_end.result.0 = c.may_end.ensures.yes_is c.if-not-may_end.false in
-    let l = lent in (omega (arith, l.0), may_lend _ _ lent _ c.stored_end.ensures may)
+    let l = (judged _ _ _ c.verdict.ensures _ c.in_ok-verdict.was).0 in
+    (omega (arith, l.0), may_read _ _ _ c.verdict.ensures _ c.in_ok-verdict.was)
 
-pub is_sound-requires : goal.is_sound-requires
-is_sound-requires g c =
-    let lent : Lent (shape g.W.Width.BYTES) c.args.h.now = c.is_lent.ensures.yes_is c.if-not-is_lent.false in
-    let may : MayEnd (shape g.W.Width.BYTES) (length c.args.h.now) c.stored_end.result.0 = c.may_end.ensures.yes_is c.if-not-may_end.false in
-    own_part_lent _ _ lent _ c.stored_end.ensures may _ c.heap_of-bytes.ensures g.met.W.Width.width
-
-pub returns-then-not-is_sound : goal.returns-then-not-is_sound
-returns-then-not-is_sound g c =
-    let lent : Lent (shape g.W.Width.BYTES) c.args.h.now = c.is_lent.ensures.yes_is c.if-not-is_lent.false in
-    examined_unsound _ _ lent _ c.word.ensures (c.if-word-magic.false ∙ c.magic.ensures) _ c.heap_of-bytes.ensures _ c.is_sound.ensures c.if-not-is_sound.true
+pub invariant_of-result : goal.invariant_of-result
+invariant_of-result g c = own_sound _ _ _ c.verdict.ensures _ c.in_ok-verdict.was _ c.heap_of-bytes.ensures
 
 pub returns : goal.returns
-returns g c =
-    let lent : Lent (shape g.W.Width.BYTES) c.args.h.now = c.is_lent.ensures.yes_is c.if-not-is_lent.false in
-    let may : MayEnd (shape g.W.Width.BYTES) (length c.args.h.now) c.stored_end.result.0 = c.may_end.ensures.yes_is c.if-not-may_end.false in
-    examined_fine _ _ lent _ c.stored_end.ensures may _ c.heap_of-bytes.ensures _ c.is_sound.ensures c.if-not-is_sound.false
+returns g c = examined_fine _ _ _ c.verdict.ensures _ c.in_ok-verdict.was _ c.heap_of-bytes.ensures
