@@ -24,6 +24,7 @@ use Rattle.model.specs.Refused.{refusal_number}
 use Rattle.serving.specs.Answers.{Answer, outcome}
 use Rattle.serving.proofs.Outcomes.{heap_of_lem}
 use Rattle.serving.specs.Counting.{told_counted, rows_of, told_table, TableTold}
+use Rattle.serving.proofs.Together.{tried_rows}
 use Rattle.promises.specs.Answered.{AnswersPromised}
 use Rattle.promises.proofs.Stable.{numbers}
 use Rattle.promises.proofs.Cases.{checked_cases}
@@ -41,11 +42,11 @@ is_refused j (Ok a) c = ((λ e. ap (λ (z : Answer). (outcome z c).refusal) e), 
 is_refused j (Err k) c = ((λ e. ap (λ (z : Answer). (outcome z c).refusal) e), (λ e. ap (λ (z : Refusal). Err z) (refusal_one k j e)))
 
 -- the table's columns and the statistics, where both tell the same blocks
-told_columns : (r : Told reading.Statistics) (t : Told (List (List ℕ))) (u : List (List ℕ)) (k j : ℕ) (s : reading.Statistics) → r ≡ record { refusal = k; answer = s } → t ≡ record { refusal = j; answer = u }
-    → (column 0 u ≡ s.pages) × (column 1 u ≡ s.items) → (column 0 t.answer ≡ r.answer.pages) × (column 1 t.answer ≡ r.answer.items)
-told_columns r t u k j s e f h = (
-  ap (λ (z : Told (List (List ℕ))). column 0 z.answer) f ∙ h.0 ∙ sym (ap (λ (z : Told reading.Statistics). z.answer.pages) e),
-  ap (λ (z : Told (List (List ℕ))). column 1 z.answer) f ∙ h.1 ∙ sym (ap (λ (z : Told reading.Statistics). z.answer.items) e),
+told_columns : (r : Told reading.Statistics) (t u : List (List ℕ)) (k : ℕ) (s : reading.Statistics) → r ≡ record { refusal = k; answer = s } → t ≡ u
+    → (column 0 u ≡ s.pages) × (column 1 u ≡ s.items) → (column 0 t ≡ r.answer.pages) × (column 1 t ≡ r.answer.items)
+told_columns r t u k s e f h = (
+  ap (λ (z : List (List ℕ)). column 0 z) f ∙ h.0 ∙ sym (ap (λ (z : Told reading.Statistics). z.answer.pages) e),
+  ap (λ (z : List (List ℕ)). column 1 z) f ∙ h.1 ∙ sym (ap (λ (z : Told reading.Statistics). z.answer.items) e),
 )
 
 -- rows of zeros behind a table add nothing to its columns
@@ -89,18 +90,18 @@ module _ {w : ℕ} (wd : Width w) where
       (column_more 0 (table_rows - (shape w).classes) (table (shape w) L.blocks) ∙ x.0, column_more 1 (table_rows - (shape w).classes) (table (shape w) L.blocks) ∙ x.1)
 
   -- what holds in each case of the check, of a pair of equal numbers
-  columns_told : (b : List ℕ) (r : Result Statistics Refusal) (t : Result (List (List ℕ)) Refusal) → Counts (shape w) b (told_counted r) → TableTold w b t
-      → (column 0 (told_table w t).answer ≡ (told_counted r).answer.pages) × (column 1 (told_table w t).answer ≡ (told_counted r).answer.items)
+  columns_told : (b : List ℕ) (r : Result Statistics Refusal) (t : List (List ℕ)) → Counts (shape w) b (told_counted r) → TableTold w b t
+      → (column 0 t ≡ (told_counted r).answer.pages) × (column 1 t ≡ (told_counted r).answer.items)
   columns_told b r t x y = (
-    numbers (column 0 (told_table w t).answer) (told_counted r).answer.pages (checked_cases (shape w) b (λ m. (none (x.one m) (y.one m)).0) (λ l m. (none (x.two l m) (y.two l m)).0) (λ l o m. (none (x.three l o m) (y.three l o m)).0) (λ l L h. (some_of L h (x.sound l L h) (y.sound l L h)).0)),
-    numbers (column 1 (told_table w t).answer) (told_counted r).answer.items (checked_cases (shape w) b (λ m. (none (x.one m) (y.one m)).1) (λ l m. (none (x.two l m) (y.two l m)).1) (λ l o m. (none (x.three l o m) (y.three l o m)).1) (λ l L h. (some_of L h (x.sound l L h) (y.sound l L h)).1)),
+    numbers (column 0 t) (told_counted r).answer.pages (checked_cases (shape w) b (λ m. (none (x.one m) (y.one m)).0) (λ l m. (none (x.two l m) (y.two l m)).0) (λ l o m. (none (x.three l o m) (y.three l o m)).0) (λ l L h. (some_of L h (x.sound l L h) (y.sound l L h)).0)),
+    numbers (column 1 t) (told_counted r).answer.items (checked_cases (shape w) b (λ m. (none (x.one m) (y.one m)).1) (λ l m. (none (x.two l m) (y.two l m)).1) (λ l o m. (none (x.three l o m) (y.three l o m)).1) (λ l L h. (some_of L h (x.sound l L h) (y.sound l L h)).1)),
   )
     where
-      none : {k j : ℕ} → told_counted r ≡ record { refusal = k; answer = counted [] } → told_table w t ≡ record { refusal = j; answer = rows_of w [] } → (column 0 (told_table w t).answer ≡ (told_counted r).answer.pages) × (column 1 (told_table w t).answer ≡ (told_counted r).answer.items)
-      none {k} {j} e f = told_columns (told_counted r) (told_table w t) (rows_of w []) k j (counted []) e f none_columns
+      none : {k : ℕ} → told_counted r ≡ record { refusal = k; answer = counted [] } → t ≡ rows_of w [] → (column 0 t ≡ (told_counted r).answer.pages) × (column 1 t ≡ (told_counted r).answer.items)
+      none {k} e f = told_columns (told_counted r) t (rows_of w []) k (counted []) e f none_columns
 
-      some_of : (L : Layout) → HereIn (shape w) b L → told_counted r ≡ record { refusal = 0; answer = counted L.blocks } → told_table w t ≡ record { refusal = 0; answer = rows_of w L.blocks } → (column 0 (told_table w t).answer ≡ (told_counted r).answer.pages) × (column 1 (told_table w t).answer ≡ (told_counted r).answer.items)
-      some_of L h e f = told_columns (told_counted r) (told_table w t) (rows_of w L.blocks) 0 0 (counted L.blocks) e f (rows_columns (end_of (length (heap_of (shape w) b))) L h.here.valid)
+      some_of : (L : Layout) → HereIn (shape w) b L → told_counted r ≡ record { refusal = 0; answer = counted L.blocks } → t ≡ rows_of w L.blocks → (column 0 t ≡ (told_counted r).answer.pages) × (column 1 t ≡ (told_counted r).answer.items)
+      some_of L h e f = told_columns (told_counted r) t (rows_of w L.blocks) 0 (counted L.blocks) e f (rows_columns (end_of (length (heap_of (shape w) b))) L h.here.valid)
 
   pub answers_promised : AnswersPromised w
   unfolding Comes
@@ -137,6 +138,7 @@ module _ {w : ℕ} (wd : Width w) where
             let y = (promised wd).smaller_kept b n (outcome r c) L l h x i one le m in
             ((is_granted r c).1 y.0, λ s k. outcome_one r (Ok (record { 0 = x.address })) c b (y.1 s k));
         columns_add = columns_told;
+        tried_columns_add = λ b r t x y. columns_told b r (told_table w t).answer x (tried_rows w b t y);
       }
     where
       sure_nothing : (f : Found) → ((f ≡ nothing → ⊥) → ⊥) → f ≡ nothing

@@ -1,5 +1,7 @@
 -- Any two results that a public contract allows are equal: the calls' own answers, the C numbers and the reading calls. Of every word size.
-use Rattle.std.proofs.Common.{ℕ, ◌≤◌, ◌≡◌, refl, sym, ap, ap₂, ◌∙◌, cond, eqb, List, arith, Option, Some, None, Result, Ok, Err, Bor, MutBor}
+use Rattle.std.specs.Prelude.{⊤}
+use Rattle.std.proofs.Common.{ℕ, ◌≤◌, ◌≡◌, refl, sym, ap, ap₂, ◌∙◌, cond, eqb, List, arith, length, Option, Some, None, Result, Ok, Err, Bor, MutBor}
+use Rattle.std.proofs.Math.Decide.{ℕ_discrete}
 use Rattle.model.specs.Shape.{shape}
 use Rattle.model.specs.Sound.{SoundIn}
 use Rattle.model.specs.Reading as reading
@@ -14,13 +16,15 @@ use Rattle.reading.specs.declared.stepping.MetBlock.{MetBlock}
 use Rattle.reading.specs.declared.counting.Statistics.{Statistics}
 use Rattle.model.specs.declared.refusals.Refusal.{Refusal}
 use Rattle.model.specs.declared.refusals.Refusal.TheVariants.{BadLength, NotOpened, NotSound, BadSize, NotLive, NoRoom, AlreadyOpened, BadEnd}
+use Rattle.serving.specs.declared.counting.Counted.{Counted}
 use Rattle.serving.specs.declared.walks.Step.{Step}
-use Rattle.examining.specs.Examined.{UnfitFor, Examined}
+use Rattle.serving.specs.declared.walks.Stepped.{Stepped}
+use Rattle.examining.specs.Examined.{UnfitFor, Examined, Judged}
 use Rattle.model.specs.Refused.{refusal_number}
 use Rattle.serving.specs.Answers.{Answer, Swept, outcome, swept_outcome}
-use Rattle.serving.specs.Counting.{told_counted, told_table}
-use Rattle.serving.specs.Walking.{told_next, told_step}
-use Rattle.serving.specs.Lookup.{PartAt, NoPart, Part, PartMut}
+use Rattle.serving.specs.Counting.{told_counted, printed_count, told_table}
+use Rattle.serving.specs.Walking.{told_next, told_step, printed_kind, printed_step}
+use Rattle.serving.specs.Lookup.{PartAt, LivePart, NoPart, TriedPart, TriedPartMut}
 use Rattle.promises.specs.Answered.{Same, OneResult}
 use Rattle.promises.proofs.Stable.{numbers, lists, tolds, steps, statistics}
 use Rattle.promises.proofs.Determined.{checked_one, determined}
@@ -152,6 +156,40 @@ counted_one (Ok s) (Err k) e = absurd (omega (arith, refusal_some k, ap (λ (x :
 counted_one (Err k) (Ok s) e = absurd (omega (arith, refusal_some k, ap (λ (x : Told reading.Statistics). x.refusal) e))
 counted_one (Err k) (Err j) e = ap (λ (z : Refusal). Err z) (refusal_one k j (ap (λ (x : Told reading.Statistics). x.refusal) e))
 
+-- and what is printed of them, and of a step
+abbrev printed_count_back : Told reading.Statistics → Counted
+printed_count_back t =
+    record {
+      statistics = record {
+        free_bytes = t.answer.free_bytes;
+        free_blocks = t.answer.free_blocks;
+        largest_free = t.answer.largest_free;
+        variables = t.answer.variables;
+        pages = t.answer.pages;
+        items = t.answer.items;
+      };
+      refusal = t.refusal;
+    }
+
+printed_kind_back : reading.Kind → Option Kind
+printed_kind_back (a_free next previous) = Some (Free (record { 0 = next }) (record { 0 = previous }))
+printed_kind_back a_variable = Some Variable
+printed_kind_back (a_page c) = Some (Page c)
+printed_kind_back the_end = None
+
+printed_kind_back_lem : (k : Option Kind) → printed_kind_back (printed_kind k) ≡ k
+unfolding printed_kind_back
+printed_kind_back_lem None = refl
+printed_kind_back_lem (Some (Free next previous)) = refl
+printed_kind_back_lem (Some Variable) = refl
+printed_kind_back_lem (Some (Page c)) = refl
+
+abbrev printed_step_back : Told reading.Step → Stepped
+printed_step_back t = record { refusal = t.refusal; position = record { 0 = t.answer.position }; size = t.answer.size; kind = printed_kind_back t.answer.kind; next = record { 0 = t.answer.next } }
+
+printed_step_back_lem : (r : Stepped) → printed_step_back (printed_step r) ≡ r
+printed_step_back_lem r = ap (λ (k : Option Kind). record { refusal = r.refusal; position = r.position; size = r.size; kind = k; next = r.next }) (printed_kind_back_lem r.kind)
+
 -- and the table
 abbrev table_back : Told (List (List ℕ)) → Result (List (List ℕ)) Refusal
 table_back t = Ok t.answer
@@ -214,27 +252,53 @@ module _ (w : ℕ) where
   verdict_one b (Err k) (Ok t) x y = absurd (fine_fit b k y.0 x)
   verdict_one b (Err k) (Err j) x y = ap (λ (z : Refusal). Err z) (unfit_one b k j x y)
 
-  -- two parts of one heap are one; and what lends a part refuses nothing
-  parts_one : (h : ℕ × ℕ) (b : List ℕ) (a : ℕ) (i j : ℕ × ℕ) (l m : List ℕ) → PartAt w h b a i l → PartAt w h b a j m → (l ≡ m) × (i ≡ j)
-  parts_one h b a i j l m x y = (checked_one (shape w) b (lists numbers) _ _ l m x.bytes y.bytes, ap₂ (λ (k n : ℕ). (k, n)) (x.same ∙ sym y.same) (x.place ∙ sym y.place))
+  judged_one : (b : List ℕ) (v v' : Result ⊤ Refusal) → Judged w b v → Judged w b v' → v ≡ v'
+  unfolding Judged
+  judged_one b (Ok t) (Ok u) x y = refl
+  judged_one b (Ok t) (Err k) x y = absurd (fine_fit b k x y)
+  judged_one b (Err k) (Ok t) x y = absurd (fine_fit b k y x)
+  judged_one b (Err k) (Err j) x y = ap (λ (z : Refusal). Err z) (unfit_one b k j x y)
 
-  not_both : (h : ℕ × ℕ) (b : List ℕ) (a : ℕ) (i : ℕ × ℕ) (l : List ℕ) (k : Refusal) → PartAt w h b a i l → NoPart w b a k → ⊥
+  -- two parts of one heap are one
+  part_one : (h : ℕ × ℕ) (b : List ℕ) (a : ℕ) (i j : ℕ × ℕ) (l m : List ℕ) → PartAt w h b a i l → PartAt w h b a j m → l ≡ m → i.1 ≡ j.1
+  part_one h b a i j l m p q e = go (ℕ_discrete (length l) 0)
+    where
+      long : length l ≡ length m
+      long = ap length e
+
+      go : Dec (length l ≡ 0) → i.1 ≡ j.1
+      go (yes z) = p.empty z ∙ sym (q.empty (sym long ∙ z))
+      go (no z) = p.place (omega (arith, z)) ∙ sym (q.place (omega (arith, z, long)))
+
+  parts_one : (h : ℕ × ℕ) (b : List ℕ) (a : ℕ) (i j : ℕ × ℕ) (l m : List ℕ) → PartAt w h b a i l → PartAt w h b a j m → (l ≡ m) × (i ≡ j)
+  parts_one h b a i j l m x y =
+      let e : l ≡ m = checked_one (shape w) b (lists numbers) _ _ l m x.bytes y.bytes in
+      (e, ap₂ (λ (k n : ℕ). (k, n)) (x.same ∙ sym y.same) (part_one h b a i j l m x y e))
+
+  -- a live part is a part, and what lends one refuses nothing
+  live_at : {h : ℕ × ℕ} {b : List ℕ} {a : ℕ} {i : ℕ × ℕ} {l : List ℕ} → LivePart w h b a i l → PartAt w h b a i l
+  live_at x = record { bytes = x.bytes; same = x.same; place = λ z. x.place; empty = λ z. absurd (omega (arith, z, x.some_byte)) }
+
+  live_one : (h : ℕ × ℕ) (b : List ℕ) (a : ℕ) (i j : ℕ × ℕ) (l m : List ℕ) → LivePart w h b a i l → LivePart w h b a j m → (l ≡ m) × (i ≡ j)
+  live_one h b a i j l m x y = parts_one h b a i j l m (live_at x) (live_at y)
+
+  not_both : (h : ℕ × ℕ) (b : List ℕ) (a : ℕ) (i : ℕ × ℕ) (l : List ℕ) (k : Refusal) → LivePart w h b a i l → NoPart w b a k → ⊥
   not_both h b a i l k x y = omega (arith, refusal_some k, checked_one (shape w) b numbers _ _ 0 (refusal_number k) x.granted y.refusal)
 
   none_one : (b : List ℕ) (a : ℕ) (k j : Refusal) → NoPart w b a k → NoPart w b a j → k ≡ j
   none_one b a k j x y = refusal_one k j (checked_one (shape w) b numbers _ _ (refusal_number k) (refusal_number j) x.refusal y.refusal)
 
-  look_up_one : (h : Bor (List ℕ)) (a : ℕ) (r r' : Result (Bor (List ℕ)) Refusal) → Part w h a r → Part w h a r' → Same (λ x y. (x.now ≡ y.now) × (x.ref_ptr ≡ y.ref_ptr)) r r'
-  look_up_one h a (Ok r) (Ok t) x y = parts_one h.ref_ptr h.now a r.ref_ptr t.ref_ptr r.now t.now x y
-  look_up_one h a (Ok r) (Err k) x y = not_both h.ref_ptr h.now a r.ref_ptr r.now k x y
-  look_up_one h a (Err k) (Ok r) x y = not_both h.ref_ptr h.now a r.ref_ptr r.now k y x
-  look_up_one h a (Err k) (Err j) x y = none_one h.now a k j x y
+  tried_one : (h : Bor (List ℕ)) (a : ℕ) (r r' : Result (Bor (List ℕ)) Refusal) → TriedPart w h a r → TriedPart w h a r' → Same (λ x y. (x.now ≡ y.now) × (x.ref_ptr ≡ y.ref_ptr)) r r'
+  tried_one h a (Ok r) (Ok t) x y = live_one h.ref_ptr h.now a r.ref_ptr t.ref_ptr r.now t.now x y
+  tried_one h a (Ok r) (Err k) x y = not_both h.ref_ptr h.now a r.ref_ptr r.now k x y
+  tried_one h a (Err k) (Ok r) x y = not_both h.ref_ptr h.now a r.ref_ptr r.now k y x
+  tried_one h a (Err k) (Err j) x y = none_one h.now a k j x y
 
-  look_up_mut_one : (h : MutBor (List ℕ)) (a : ℕ) (r r' : Result (MutBor (List ℕ)) Refusal) → PartMut w h a r → PartMut w h a r' → Same (λ x y. (x.now ≡ y.now) × (x.ref_ptr ≡ y.ref_ptr)) r r'
-  look_up_mut_one h a (Ok r) (Ok t) x y = parts_one h.ref_ptr h.now a r.ref_ptr t.ref_ptr r.now t.now x y
-  look_up_mut_one h a (Ok r) (Err k) x y = not_both h.ref_ptr h.now a r.ref_ptr r.now k x y
-  look_up_mut_one h a (Err k) (Ok r) x y = not_both h.ref_ptr h.now a r.ref_ptr r.now k y x
-  look_up_mut_one h a (Err k) (Err j) x y = none_one h.now a k j x y
+  tried_mut_one : (h : MutBor (List ℕ)) (a : ℕ) (r r' : Result (MutBor (List ℕ)) Refusal) → TriedPartMut w h a r → TriedPartMut w h a r' → Same (λ x y. (x.now ≡ y.now) × (x.ref_ptr ≡ y.ref_ptr)) r r'
+  tried_mut_one h a (Ok r) (Ok t) x y = live_one h.ref_ptr h.now a r.ref_ptr t.ref_ptr r.now t.now x y
+  tried_mut_one h a (Ok r) (Err k) x y = not_both h.ref_ptr h.now a r.ref_ptr r.now k x y
+  tried_mut_one h a (Err k) (Ok r) x y = not_both h.ref_ptr h.now a r.ref_ptr r.now k y x
+  tried_mut_one h a (Err k) (Err j) x y = none_one h.now a k j x y
 
   pub one_result : OneResult w
   unfolding Comes
@@ -243,13 +307,19 @@ module _ (w : ℕ) where
         answers = λ b q r r' c c' x y. outcome_one r r' c c' (determined (shape w) b q (outcome r c) (outcome r' c') x y);
         sweeps = λ b r r' c c' x y. swept_one r r' c c' (determined (shape w) b sweeping (swept_outcome r c) (swept_outcome r' c') x y);
         verdicts = verdict_one;
+        judgements = judged_one;
         numbers = λ b q n n' c c' x y.
             let e : x.outcome ≡ y.outcome = determined (shape w) b q x.outcome y.outcome x.allowed y.allowed in
             (x.number ∙ ap number e ∙ sym y.number, x.heap ∙ ap (λ (o : Outcome). o.heap) e ∙ sym y.heap);
-        look_ups = look_up_one;
-        look_ups_mut = look_up_mut_one;
+        look_ups = λ h a r r' x y. parts_one h.ref_ptr h.now a r.ref_ptr r'.ref_ptr r.now r'.now x y;
+        look_ups_mut = λ h a r r' x y. parts_one h.ref_ptr h.now a r.ref_ptr r'.ref_ptr r.now r'.now x y;
+        tried_look_ups = tried_one;
+        tried_look_ups_mut = tried_mut_one;
         look_up_refusals = λ b a k k' x y. checked_one (shape w) b numbers _ _ k k' x y;
         statistics = λ b r r' x y. counted_one r r' (checked_one (shape w) b (tolds statistics) _ _ (told_counted r) (told_counted r') x y);
-        tables = λ b t t' x y. table_one w t t' (checked_one (shape w) b (tolds (lists (lists numbers))) _ _ (told_table w t) (told_table w t') x y);
+        printed_counts = λ b r r' x y. ap printed_count_back (checked_one (shape w) b (tolds statistics) _ _ (printed_count r) (printed_count r') x y);
+        tables = λ b t t' x y. checked_one (shape w) b (lists (lists numbers)) _ _ t t' x y;
+        tried_tables = λ b t t' x y. table_one w t t' (checked_one (shape w) b (tolds (lists (lists numbers))) _ _ (told_table w t) (told_table w t') x y);
         steps = λ b at r r' x y. step_one w at r r' (checked_one (shape w) b (tolds steps) _ _ (told_step w at r) (told_step w at r') x y);
+        printed_steps = λ b at r r' x y. sym (printed_step_back_lem r) ∙ ap printed_step_back (checked_one (shape w) b (tolds steps) _ _ (printed_step r) (printed_step r') x y) ∙ printed_step_back_lem r';
       }

@@ -1,5 +1,5 @@
 -- The demands of what the public calls themselves answer, of document 01's heap (w = 8) and of the hand unit's (w = 4): the Result that they answer, through the definition of what it means; the C numbers; the reading calls.
-use Rattle.std.specs.Prelude.{ℕ, ◌≤◌, ◌≡◌, ◌↔◌, List, length, get_or, Result, Ok, Err}
+use Rattle.std.specs.Prelude.{ℕ, ◌≤◌, ◌≡◌, ◌↔◌, List, length, get_or, Result, Ok, Err, ⊤}
 use Rattle.std.proofs.Math.Option.{none}
 use Rattle.std.specs.Borrow.{Bor, MutBor}
 use Rattle.model.specs.Shape.{shape, end_of, address_of, item_at}
@@ -14,12 +14,14 @@ use Rattle.model.specs.declared.Address.{Address}
 use Rattle.model.specs.declared.refusals.Refusal.{Refusal}
 use Rattle.model.specs.declared.refusals.Refusal.TheVariants as why
 use Rattle.reading.specs.declared.counting.Statistics.{Statistics}
+use Rattle.serving.specs.declared.counting.Counted.{Counted}
 use Rattle.serving.specs.declared.walks.Step.{Step}
-use Rattle.examining.specs.Examined.{Examined}
+use Rattle.serving.specs.declared.walks.Stepped.{Stepped}
+use Rattle.examining.specs.Examined.{Examined, Judged}
 use Rattle.serving.specs.Answers.{Answer, Swept, outcome, swept_outcome}
-use Rattle.serving.specs.Counting.{told_counted, told_table, TableTold}
-use Rattle.serving.specs.Walking.{told_step}
-use Rattle.serving.specs.Lookup.{Part, PartMut, PartTold, RefusalTold}
+use Rattle.serving.specs.Counting.{told_counted, printed_count, told_table, TableTold, TriedTable}
+use Rattle.serving.specs.Walking.{told_step, printed_step}
+use Rattle.serving.specs.Lookup.{Part, PartMut, TriedPart, TriedPartMut, PartTold, RefusalTold}
 use Rattle.numbering.specs.Numbers.{Numbered}
 
 -- two answers are the same: both grant, and what they grant is the same, or both are one refusal
@@ -55,13 +57,19 @@ module _ (w : ℕ) where
     pub answers : (b : List ℕ) (q : Call) (r r' : Answer) (c c' : List ℕ) → MayAnswer b q r c → MayAnswer b q r' c' → (r ≡ r') × (c ≡ c')
     pub sweeps : (b : List ℕ) (r r' : Swept) (c c' : List ℕ) → MaySweep b r c → MaySweep b r' c' → (r ≡ r') × (c ≡ c')
     pub verdicts : (b : List ℕ) (v v' : Result (List ℕ) Refusal) → Examined w b v → Examined w b v' → v ≡ v'
+    pub judgements : (b : List ℕ) (v v' : Result ⊤ Refusal) → Judged w b v → Judged w b v' → v ≡ v'
     pub numbers : (b : List ℕ) (q : Call) (n n' : ℕ) (c c' : List ℕ) → Numbered (Comes (shape w) b q) n c → Numbered (Comes (shape w) b q) n' c' → (n ≡ n') × (c ≡ c')
-    pub look_ups : (h : Bor (List ℕ)) (a : ℕ) (r r' : Result (Bor (List ℕ)) Refusal) → Part w h a r → Part w h a r' → Same (λ x y. (x.now ≡ y.now) × (x.ref_ptr ≡ y.ref_ptr)) r r'
-    pub look_ups_mut : (h : MutBor (List ℕ)) (a : ℕ) (r r' : Result (MutBor (List ℕ)) Refusal) → PartMut w h a r → PartMut w h a r' → Same (λ x y. (x.now ≡ y.now) × (x.ref_ptr ≡ y.ref_ptr)) r r'
+    pub look_ups : (h : Bor (List ℕ)) (a : ℕ) (r r' : Bor (List ℕ)) → Part w h a r → Part w h a r' → (r.now ≡ r'.now) × (r.ref_ptr ≡ r'.ref_ptr)
+    pub look_ups_mut : (h : MutBor (List ℕ)) (a : ℕ) (r r' : MutBor (List ℕ)) → PartMut w h a r → PartMut w h a r' → (r.now ≡ r'.now) × (r.ref_ptr ≡ r'.ref_ptr)
+    pub tried_look_ups : (h : Bor (List ℕ)) (a : ℕ) (r r' : Result (Bor (List ℕ)) Refusal) → TriedPart w h a r → TriedPart w h a r' → Same (λ x y. (x.now ≡ y.now) × (x.ref_ptr ≡ y.ref_ptr)) r r'
+    pub tried_look_ups_mut : (h : MutBor (List ℕ)) (a : ℕ) (r r' : Result (MutBor (List ℕ)) Refusal) → TriedPartMut w h a r → TriedPartMut w h a r' → Same (λ x y. (x.now ≡ y.now) × (x.ref_ptr ≡ y.ref_ptr)) r r'
     pub look_up_refusals : (b : List ℕ) (a k k' : ℕ) → RefusalTold w b a k → RefusalTold w b a k' → k ≡ k'
     pub statistics : (b : List ℕ) (r r' : Result Statistics Refusal) → Counts (shape w) b (told_counted r) → Counts (shape w) b (told_counted r') → r ≡ r'
-    pub tables : (b : List ℕ) (t t' : Result (List (List ℕ)) Refusal) → TableTold w b t → TableTold w b t' → t ≡ t'
+    pub printed_counts : (b : List ℕ) (r r' : Counted) → Counts (shape w) b (printed_count r) → Counts (shape w) b (printed_count r') → r ≡ r'
+    pub tables : (b : List ℕ) (t t' : List (List ℕ)) → TableTold w b t → TableTold w b t' → t ≡ t'
+    pub tried_tables : (b : List ℕ) (r r' : Result (List (List ℕ)) Refusal) → TriedTable w b r → TriedTable w b r' → r ≡ r'
     pub steps : (b : List ℕ) (at : ℕ) (r r' : Result Step Refusal) → Steps (shape w) b at (told_step w at r) → Steps (shape w) b at (told_step w at r') → r ≡ r'
+    pub printed_steps : (b : List ℕ) (at : ℕ) (r r' : Stepped) → Steps (shape w) b at (printed_step r) → Steps (shape w) b at (printed_step r') → r ≡ r'
 
   -- Demands 1 and 2 of what the calls answer
   pub record AnswersPromised : Type 0 where
@@ -106,7 +114,9 @@ module _ (w : ℕ) where
         → MayAnswer b (resizing x.address n) r c
         → ((a : Address) × (r ≡ Ok a)) × (stays (shape w) n (find (shape w) x.address L) L ≡ none → NoRoom (shape w) (end_of (length b)) n L → (r ≡ Ok (record { 0 = x.address })) × (c ≡ b))
     -- the table's columns add up to the statistics of the same heap
-    pub columns_add : (b : List ℕ) (r : Result Statistics Refusal) (t : Result (List (List ℕ)) Refusal) → Counts (shape w) b (told_counted r) → TableTold w b t
+    pub columns_add : (b : List ℕ) (r : Result Statistics Refusal) (t : List (List ℕ)) → Counts (shape w) b (told_counted r) → TableTold w b t
+        → (column 0 t ≡ (told_counted r).answer.pages) × (column 1 t ≡ (told_counted r).answer.items)
+    pub tried_columns_add : (b : List ℕ) (r : Result Statistics Refusal) (t : Result (List (List ℕ)) Refusal) → Counts (shape w) b (told_counted r) → TriedTable w b t
         → (column 0 (told_table w t).answer ≡ (told_counted r).answer.pages) × (column 1 (told_table w t).answer ≡ (told_counted r).answer.items)
 
   -- Demands 1 and 2 of what a sweep answers

@@ -1,21 +1,24 @@
 -- The reading calls: what each way through them shows of their contracts.
-use Rattle.std.proofs.Common.{ℕ, ◌+◌, ◌-◌, ◌<◌, ◌≡◌, refl, sym, ap, subst, ◌∙◌, true≢false, List, [], arith, length, take, drop, length-take, length-drop, length-take-le, Option, Some, None, ok_or, is_some, unwrap_or, Result, Ok, Err}
+use Rattle.std.proofs.Common.{ℕ, ◌+◌, ◌-◌, ◌<◌, ◌≡◌, refl, sym, ap, ap₂, subst, ◌∙◌, true≢false, List, [], arith, length, take, drop, length-take, length-drop, length-take-le, Option, Some, None, ok_or, is_some, unwrap_or, Result, Ok, Err}
 use Rattle.std.proofs.Math.Nat.{add-sub_cancel_left}
 use Rattle.words.specs.Width.{Width}
 use Rattle.model.specs.Shape.{Shape, shape}
 use Rattle.model.specs.Layout.{Layout}
 use Rattle.model.specs.Sound.{Here, stored_end, heap_of}
 use Rattle.model.specs.Rules.{Found, block, thing, nothing, find, shown_of}
-use Rattle.model.specs.Reading.{rows_from}
+use Rattle.model.specs.Reading as reading
+use Rattle.model.specs.Reading.{rows_from, counted}
 use Rattle.model.specs.Refusals.{not_live}
 use Rattle.model.specs.Calls.{Told, Checked, found}
 use Rattle.model.specs.declared.refusals.Refusal.{Refusal}
 use Rattle.model.specs.declared.refusals.Refusal.TheVariants.{NotLive}
-use Rattle.reading.specs.Counting.{table_rows}
+use Rattle.model.specs.Refused.{refusal_number}
+use Rattle.reading.specs.Counting.{table_rows, told}
+use Rattle.reading.specs.declared.counting.Statistics.{Statistics}
 use Rattle.reading.proofs.TableLaws.{table_rows_lem}
 use Rattle.holding.specs.Holding.{measured, Holds}
 use Rattle.examining.specs.Examined.{Examined}
-use Rattle.serving.specs.Counting.{rows_of, TableTold}
+use Rattle.serving.specs.Counting.{told_counted, printed_count, rows_of, TriedTable}
 use Rattle.serving.specs.Lookup.{PartTold, NoPart, HeldTold}
 use Rattle.examining.proofs.Examining.{fine_lent, fine_heap, refuses, decides}
 use Rattle.serving.proofs.Readied.{here_as}
@@ -27,6 +30,10 @@ checked_map f c = record { one = λ n. ap f (c.one n); two = λ l n. ap f (c.two
 abbrev pub with : {A : Type 0} → ℕ → A → Told A
 with k x = record { refusal = k; answer = x }
 
+-- what is printed of a refused count
+pub count_refused : (r : Result Statistics Refusal) (k : Refusal) (s : Statistics) (n : ℕ) → r ≡ Err k → n ≡ refusal_number k → told s ≡ counted [] → printed_count (record { statistics = s; refusal = n }) ≡ told_counted r
+count_refused r k s n e f z = rw e (ap₂ (λ (m : ℕ) (y : reading.Statistics). with m y) f z)
+
 -- what was read of the heap's own bytes
 module _ {A : Type 0} (w : ℕ) (b : List ℕ) (none : A) (rule : Layout → A) (v : Result (List ℕ) Refusal) {own : List ℕ} (x : Examined w b v) (e : v ≡ Ok own) where
   pub tells_answer : (r : A) → ((L : Layout) → Here (shape w) own L → r ≡ rule L) → Checked (shape w) b (λ j. with j none) (λ L. with 0 (rule L)) (with 0 r)
@@ -34,7 +41,7 @@ module _ {A : Type 0} (w : ℕ) (b : List ℕ) (none : A) (rule : Layout → A) 
 
 -- the table of classes: as many rows as a table has at any word size
 pub table_told : {w : ℕ} → Width w → (b : List ℕ) (v : Result (List ℕ) Refusal) {own : List ℕ} → Examined w b v → v ≡ Ok own → (t : List (List ℕ))
-    → ((L : Layout) → Here (shape w) own L → t ≡ rows_from table_rows 0 L.blocks) → TableTold w b (Ok t)
+    → ((L : Layout) → Here (shape w) own L → t ≡ rows_from table_rows 0 L.blocks) → TriedTable w b (Ok t)
 table_told {w} wd b v x e t d = tells_answer w b (rows_of w []) (λ L. rows_of w L.blocks) v x e t (λ L h. d L h ∙ table_rows_lem wd L.blocks h.valid.allowed)
 
 -- what is live at an address

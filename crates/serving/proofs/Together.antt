@@ -1,10 +1,10 @@
 -- The reading calls that stand side by side: an answer, and its refusal number, are together what document 01 says.
-use Rattle.std.proofs.Common.{ℕ, zero, suc, ◌+◌, ◌≤◌, ◌≡◌, refl, sym, ap, ap₂, ◌∙◌, List, [], ◌∷◌, ◌++◌, arith, length, take, drop, Result}
+use Rattle.std.proofs.Common.{ℕ, zero, suc, ◌+◌, ◌≤◌, ◌≡◌, refl, sym, ap, ap₂, ◌∙◌, List, [], ◌∷◌, ◌++◌, arith, length, take, drop, subst, Result, Ok, Err}
 use Rattle.std.proofs.Math.Decide.{ℕ_discrete, dec_le}
 use Rattle.words.specs.Width.{Width}
 use Rattle.model.specs.Shape.{shape, least_free, end_of}
 use Rattle.model.specs.Layout.{Block, Layout}
-use Rattle.model.specs.Sound.{heap_of, HereIn, SoundIn}
+use Rattle.model.specs.Sound.{AllAllowed, heap_of, HereIn, SoundIn}
 use Rattle.model.specs.Rules.{Found, block, thing, nothing, find, shown_of}
 use Rattle.model.specs.Reading.{the_end, Statistics, Step, row, rows_from, table, ended, step}
 use Rattle.model.specs.Refusals.{not_live}
@@ -12,7 +12,9 @@ use Rattle.model.specs.Calls.{Told, Lent, Opened, found, LooksUp, Steps, Counts,
 use Rattle.model.specs.declared.refusals.Refusal.{Refusal}
 use Rattle.model.proofs.pictures.Fronts.{own_ends}
 use Rattle.model.proofs.walks.Steps.{step_rises, step_stays}
-use Rattle.serving.specs.Counting.{rows_of, told_table, TableTold}
+use Rattle.reading.specs.Counting.{table_rows}
+use Rattle.reading.proofs.TableLaws.{table_rows_lem}
+use Rattle.serving.specs.Counting.{rows_of, told_table, TableTold, TriedTable}
 use Rattle.serving.specs.Lookup.{PartTold, RefusalTold}
 use Rattle.serving.proofs.Answering.{checked_map}
 
@@ -31,10 +33,9 @@ module _ (w : ℕ) where
   cut bs = rows_taken (shape w).classes 0 bs _
 
   -- the table, with the refusal number beside the statistics: as many rows as there are classes
-  pub tabulates : (b : List ℕ) (s : Told Statistics) (r : Result (List (List ℕ)) Refusal) → Counts (shape w) b s → TableTold w b r
-      → Tabulates (shape w) b (record { refusal = s.refusal; answer = take (shape w).classes (told_table w r).answer })
-  tabulates b s r c told =
-      let d = checked_map (λ (t : Told (List (List ℕ))). take (shape w).classes t.answer) told in
+  pub tabulates : (b : List ℕ) (s : Told Statistics) (t : List (List ℕ)) → Counts (shape w) b s → TableTold w b t → Tabulates (shape w) b (record { refusal = s.refusal; answer = take (shape w).classes t })
+  tabulates b s t c told =
+      let d = checked_map (λ (l : List (List ℕ)). take (shape w).classes l) told in
       record {
         one = λ n. pair (ap (λ (x : Told Statistics). x.refusal) (c.one n)) (d.one n ∙ cut []);
         two = λ l n. pair (ap (λ (x : Told Statistics). x.refusal) (c.two l n)) (d.two l n ∙ cut []);
@@ -42,8 +43,24 @@ module _ (w : ℕ) where
         sound = λ l L h. pair (ap (λ (x : Told Statistics). x.refusal) (c.sound l L h)) (d.sound l L h ∙ cut L.blocks);
       }
 
+  -- the rows of a table that may be refused: the table, or zeros
+  pub tried_rows : (b : List ℕ) (r : Result (List (List ℕ)) Refusal) → TriedTable w b r → TableTold w b (told_table w r).answer
+  tried_rows b r t = checked_map (λ (x : Told (List (List ℕ))). x.answer) t
+
+  pub rows_granted : (b : List ℕ) (r : Result (List (List ℕ)) Refusal) (t : List (List ℕ)) → TriedTable w b r → r ≡ Ok t → TableTold w b t
+  rows_granted b r t x e = subst (λ (r : Result (List (List ℕ)) Refusal). TableTold w b (told_table w r).answer) e (tried_rows b r x)
+
+  pub rows_refused : Width w → (b : List ℕ) (r : Result (List (List ℕ)) Refusal) (k : Refusal) → TriedTable w b r → r ≡ Err k → TableTold w b (rows_from table_rows 0 [])
+  unfolding AllAllowed
+  rows_refused wd b r k x e =
+      subst (λ (t : List (List ℕ)). TableTold w b t) (sym (table_rows_lem wd [] tt)) (subst (λ (r : Result (List (List ℕ)) Refusal). TableTold w b (told_table w r).answer) e (tried_rows b r x))
+
+  pub tabulates_tried : (b : List ℕ) (s : Told Statistics) (r : Result (List (List ℕ)) Refusal) → Counts (shape w) b s → TriedTable w b r
+      → Tabulates (shape w) b (record { refusal = s.refusal; answer = take (shape w).classes (told_table w r).answer })
+  tabulates_tried b s r c told = tabulates b s (told_table w r).answer c (tried_rows b r told)
+
   -- and with its own
-  pub tabulates_alone : (b : List ℕ) (r : Result (List (List ℕ)) Refusal) → TableTold w b r → Tabulates (shape w) b (record { refusal = (told_table w r).refusal; answer = take (shape w).classes (told_table w r).answer })
+  pub tabulates_alone : (b : List ℕ) (r : Result (List (List ℕ)) Refusal) → TriedTable w b r → Tabulates (shape w) b (record { refusal = (told_table w r).refusal; answer = take (shape w).classes (told_table w r).answer })
   tabulates_alone b r told =
       let d = checked_map (λ (t : Told (List (List ℕ))). record { refusal = t.refusal; answer = take (shape w).classes t.answer }) told in
       record {

@@ -8,14 +8,15 @@ pub mod recovery;
 pub mod resize;
 pub mod walks;
 
-ghost use Rattle.model.specs.Shape.{shape};
+ghost use Rattle.std.specs.Prelude.{length};
+ghost use Rattle.model.specs.Shape.{shape, end_of};
 ghost use Rattle.model.specs.Calls.{Initialises, Checks, Allocates, Frees};
 ghost use Rattle.serving.specs.Answers.{outcome};
 
 use ending::{may_end, stored_end};
 use engine::free::free as free_live;
-use examining::{examine, examine_for, is_lent};
-use model::{Address, Position, Refusal, magic};
+use examining::{examine, examine_for, is_lent, verdict};
+use model::{Address, Position, Refusal, end_of, magic};
 use words::{Eight, Width};
 
 // What a call that may write answers: an address, or 0 where it gives none, so that all have one type; or why not.
@@ -38,11 +39,19 @@ pub fn initialise<W: Width>(h: &mut [u8], end: Position) -> Answer
     Ok(Address(0))
 }
 
+// Opens a heap in all of a buffer that holds none yet: as one that does not grow is opened.
+pub fn initialise_whole<W: Width>(h: &mut [u8]) -> Answer
+    ensures { Initialises (shape W.BYTES) h.old (end_of (length h.old)) (outcome result h.new) }
+{
+    let end = end_of(h.len());
+    initialise::<W>(h, end)
+}
+
 // Says whether the buffer holds a sound heap.
 pub fn check<W: Width>(h: &[u8]) -> Answer
     ensures { Checks (shape W.BYTES) h.now (outcome result h.now) }
 {
-    examine::<W>(h)?;
+    verdict::<W>(h)?;
     Ok(Address(0))
 }
 

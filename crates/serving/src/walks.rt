@@ -1,12 +1,12 @@
 // A walk over the blocks, by value: each step hands the next walk back with its answer.
-ghost use Rattle.std.specs.Prelude.{◌≡◌};
+ghost use Rattle.std.specs.Prelude.{ℕ, ◌≡◌};
 ghost use Rattle.model.specs.Shape.{shape, start};
 ghost use Rattle.model.specs.Calls.{Steps};
-ghost use Rattle.serving.specs.Walking.{told_step};
+ghost use Rattle.serving.specs.Walking.{told_step, printed_step};
 
 use examining::examine;
 use model::{Position, Refusal, start};
-use reading::stepping::MetBlock;
+use reading::stepping::{Kind, MetBlock};
 use words::Width;
 
 // Where a walk stands.
@@ -46,4 +46,49 @@ impl Walk {
             walk: Walk { at: next },
         })
     }
+
+    // What a program prints of a step of this walk: where there is no block it is the end, and where refused the walk stays too.
+    pub fn told(self, r: Result<Step, Refusal>) -> Stepped
+        ensures { (w : ℕ) → printed_step result ≡ told_step w self.at.0 r }
+    {
+        let end = Stepped {
+            refusal: 0,
+            position: Position(0),
+            size: 0,
+            kind: None,
+            next: self.at,
+        };
+        match r {
+            Err(k) => Stepped {
+                refusal: u64::from(k),
+                ..end
+            },
+            Ok(Step { block: None, walk }) => Stepped {
+                next: walk.at,
+                ..end
+            },
+            Ok(
+                Step {
+                    block: Some(b),
+                    walk,
+                },
+            ) => Stepped {
+                refusal: 0,
+                position: b.position,
+                size: b.size,
+                kind: Some(b.kind),
+                next: walk.at,
+            },
+        }
+    }
+}
+
+// A step as a program prints it: the refusal's number, 0 where granted; the block's position, size and kind, at the end 0, 0 and none; and where the walk then stands.
+#[derive(Clone, Copy)]
+pub struct Stepped {
+    pub refusal: u64,
+    pub position: Position,
+    pub size: usize,
+    pub kind: Option<Kind>,
+    pub next: Position,
 }

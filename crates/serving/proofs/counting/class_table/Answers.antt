@@ -1,10 +1,10 @@
-use Rattle.serving.specs.Counting.{TableTold}
-use Rattle.examining.proofs.Examining.{passed_on, refuses}
-use Rattle.serving.proofs.Answering.{table_told}
+use Rattle.model.specs.Reading.{rows_from, row, total}
+use Rattle.serving.proofs.Together.{rows_granted, rows_refused}
 use Rattle.serving.proofs.counting.class_table.Goals as goal
 
-pub returns-in_err-examine : goal.returns-in_err-examine
-returns-in_err-examine g c = passed_on (λ r. TableTold g.W.Width.BYTES c.args.h.now r) _ _ c.from_residual.ensures.1 (refuses _ _ _ _ _ _ c.examine.ensures c.in_err-examine.was)
+pub returns-in-Ok : goal.returns-in-Ok
+returns-in-Ok g c = rows_granted _ _ _ _ c.try_class_table.ensures c.in-Ok.is
 
-pub returns : goal.returns
-returns g c = table_told g.met.W.Width.width _ _ c.examine.ensures c.in_ok-examine.was _ c.tabulate.ensures
+pub returns-in-Err : goal.returns-in-Err
+unfolding rows_from row total
+returns-in-Err g c = rows_refused _ g.met.W.Width.width _ _ _ c.try_class_table.ensures c.in-Err.is

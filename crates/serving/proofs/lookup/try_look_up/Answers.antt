@@ -1,11 +1,11 @@
 use Rattle.std.proofs.Common.{arith, rules}
 use Rattle.examining.proofs.Examining.{passed_on}
-use Rattle.serving.specs.Lookup.{Part}
+use Rattle.serving.specs.Lookup.{TriedPart}
 use Rattle.serving.proofs.Answering.{no_part, part_bytes, part_some}
-use Rattle.serving.proofs.lookup.look_up.Goals as goal
+use Rattle.serving.proofs.lookup.try_look_up.Goals as goal
 
 pub returns-in_err-n : goal.returns-in_err-n
-returns-in_err-n g c = passed_on (λ r. Part g.W.Width.BYTES c.args.h c.args.a.0 r) _ _ c.from_residual.ensures.1 (no_part _ _ c.in_err-n.ensures)
+returns-in_err-n g c = passed_on (λ r. TriedPart g.W.Width.BYTES c.args.h c.args.a.0 r) _ _ c.from_residual.ensures.1 (no_part _ _ c.in_err-n.ensures)
 
 pub overflow_add-result : goal.overflow_add-result
 overflow_add-result g c = omega (arith, c.in_ok-n.ensures.3)
