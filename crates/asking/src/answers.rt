@@ -1,11 +1,13 @@
 // The kinds of questions, each a call of `serving` or the report of `showing`, and their lines. The first 8 bytes of a heap tell the width of its words.
+ghost use Rattle.showing.specs.Widths.{OwnWidth};
+
 use crate::input::Reason;
 use crate::payload::{sum_of, turn_over};
-use model::{Address, Hand, MOST_CLASSES, Position, Wide};
+use model::{Address, Hand, Position, Wide};
 use reading::stepping::Kind;
-use serving::counting::{class_table, statistics};
-use serving::lookup::{look_up, look_up_mut};
-use serving::walks::{Step, Walk};
+use serving::counting::{Counted, class_table, statistics};
+use serving::lookup::{LookedUp, look_up_mut, look_up_told};
+use serving::walks::Walk;
 use showing::{is_hand, write_report};
 use std::io;
 use std::io::Write;
@@ -13,69 +15,55 @@ use words::Width;
 
 // Look-up: the refusal number; how many bytes the payload has, and their sum.
 fn answer_look_up<W: Width, O: Write>(out: &mut O, h: &[u8], a: Address) -> io::Result<()> {
-    match look_up::<W>(h, a) {
-        Ok(part) => writeln!(out, "0 {} {}", part.len(), sum_of(part)),
-        Err(k) => writeln!(out, "{} 0 {}", u64::from(k), sum_of(&[])),
-    }
+    let LookedUp { part, refusal } = look_up_told::<W>(h, a);
+    writeln!(out, "{refusal} {} {}", part.len(), sum_of(part))
 }
 
 // Look-up for writing: how many bytes the payload has. All are turned over.
 fn answer_turned<W: Width, O: Write>(out: &mut O, h: &mut [u8], a: Address) -> io::Result<()> {
-    match look_up_mut::<W>(h, a) {
-        Ok(part) => {
-            turn_over(part);
-            writeln!(out, "{}", part.len())
-        }
-        Err(_) => writeln!(out, "0"),
-    }
+    let part = look_up_mut::<W>(h, a);
+    turn_over(part);
+    writeln!(out, "{}", part.len())
 }
 
-// What a block is.
-fn write_kind<O: Write>(out: &mut O, kind: Kind) -> io::Result<()> {
+// What a block is, or that there is none.
+fn write_kind<O: Write>(out: &mut O, kind: Option<Kind>) -> io::Result<()> {
     match kind {
-        Kind::Free { next, previous } => writeln!(out, "free {} {}", next.0, previous.0),
-        Kind::Variable => writeln!(out, "variable"),
-        Kind::Page { class } => writeln!(out, "page {class}"),
+        Some(Kind::Free { next, previous }) => writeln!(out, "free {} {}", next.0, previous.0),
+        Some(Kind::Variable) => writeln!(out, "variable"),
+        Some(Kind::Page { class }) => writeln!(out, "page {class}"),
+        None => writeln!(out, "end"),
     }
 }
 
-// A granted step: 0; where the walk then stands; the block's position and size, and what it is.
-fn write_step<O: Write>(out: &mut O, step: Step) -> io::Result<()> {
-    let next = step.walk.at.0;
-    match step.block {
-        Some(block) => {
-            write!(out, "0 {next} {} {} ", block.position.0, block.size)?;
-            write_kind(out, block.kind)
-        }
-        None => writeln!(out, "0 {next} 0 0 end"),
-    }
-}
-
-// A step of a walk; where it is refused, the refusal number, and the walk stays at the end.
+// A step of a walk: the refusal number; where the walk then stands; the block's position and size, and what it is.
 fn answer_step<W: Width, O: Write>(out: &mut O, h: &[u8], walk: Walk) -> io::Result<()> {
-    match walk.step::<W>(h) {
-        Ok(step) => write_step(out, step),
-        Err(k) => writeln!(out, "{} {} 0 0 end", u64::from(k), walk.at.0),
-    }
+    let step = walk.told(walk.step::<W>(h));
+    write!(
+        out,
+        "{} {} {} {} ",
+        step.refusal, step.next.0, step.position.0, step.size
+    )?;
+    write_kind(out, step.kind)
 }
 
 // Statistics: the refusal number, and the six numbers.
 fn answer_statistics<W: Width, O: Write>(out: &mut O, h: &[u8]) -> io::Result<()> {
-    match statistics::<W>(h) {
-        Ok(s) => {
-            write!(out, "0 {} {}", s.free_bytes, s.free_blocks)?;
-            write!(out, " {} {}", s.largest_free, s.variables)?;
-            writeln!(out, " {} {}", s.pages, s.items)
-        }
-        Err(k) => writeln!(out, "{} 0 0 0 0 0 0", u64::from(k)),
-    }
+    let counted = Counted::new(statistics::<W>(h));
+    let s = counted.statistics;
+    write!(
+        out,
+        "{} {} {}",
+        counted.refusal, s.free_bytes, s.free_blocks
+    )?;
+    write!(out, " {} {}", s.largest_free, s.variables)?;
+    writeln!(out, " {} {}", s.pages, s.items)
 }
 
 // The table of classes: a class's pages, live items and free items.
 fn answer_table<W: Width, O: Write>(out: &mut O, h: &[u8]) -> io::Result<()> {
-    let table = class_table::<W>(h).unwrap_or([[0; 3]; MOST_CLASSES]);
     write!(out, "classes")?;
-    for [pages, held, idle] in table {
+    for [pages, held, idle] in class_table::<W>(h) {
         write!(out, " {pages} {held} {idle}")?;
     }
     writeln!(out)
@@ -116,8 +104,10 @@ impl Question {
     }
 }
 
-// What a question on a heap with words of this width is answered: a line, the report many.
-fn reply<W: Width, O: Write>(out: &mut O, h: &mut [u8], question: Question) -> io::Result<()> {
+// What a question on a heap with words of this width, which is its own, is answered: a line, the report many.
+fn reply<W: Width, O: Write>(out: &mut O, h: &mut [u8], question: Question) -> io::Result<()>
+    requires { OwnWidth W.BYTES h.old }
+{
     match question {
         Question::LookUp(a) => answer_look_up::<W, O>(out, h, a),
         Question::Step(walk) => answer_step::<W, O>(out, h, walk),

@@ -11,6 +11,7 @@ ghost use Rattle.std.specs.Prelude.{◌≡◌, ◌+◌, ◌≤◌, length};
 ghost use Rattle.model.specs.Shape.{wide, hand, end_of};
 ghost use Rattle.model.specs.Calls.{Opened};
 ghost use Rattle.telling.specs.Tells.{Tells};
+ghost use Rattle.showing.specs.Widths.{OwnWidth};
 
 use crate::blocks::write_blocks;
 use crate::counts::{write_classes, write_statistics};
@@ -77,8 +78,10 @@ fn write_sound<W: Width, O: Write>(out: &mut O, heap: &SoundHeap<'_, W>, n: usiz
     write_map(out, heap)
 }
 
-// The report on a heap with words of this width.
-fn write_answer<W: Width, O: Write>(out: &mut O, h: &[u8]) -> io::Result<()> {
+// The report on a heap with words of this width, which is its own.
+fn write_answer<W: Width, O: Write>(out: &mut O, h: &[u8]) -> io::Result<()>
+    requires { OwnWidth W.BYTES h.now }
+{
     match examine::<W>(h) {
         Ok(heap) => write_sound(out, &heap, h.len()),
         Err(k) => write_refusal::<W, O>(out, k, h.len()),
