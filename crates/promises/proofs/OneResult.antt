@@ -1,6 +1,6 @@
 -- Any two results that a public contract allows are equal: the calls' own answers, the C numbers and the reading calls. Of every word size.
 use Rattle.std.specs.Prelude.{⊤}
-use Rattle.std.proofs.Common.{ℕ, ◌≤◌, ◌≡◌, refl, sym, ap, ap₂, ◌∙◌, cond, eqb, List, arith, length, Option, Some, None, Result, Ok, Err, Bor, MutBor}
+use Rattle.std.proofs.Common.{ℕ, ◌≤◌, ◌≡◌, refl, sym, ap, ap₂, ◌∙◌, cond, eqb, List, arith, length, Option, Some, None, option_map, Result, Ok, Err, Bor, MutBor}
 use Rattle.std.proofs.Math.Decide.{ℕ_discrete}
 use Rattle.model.specs.Shape.{shape}
 use Rattle.model.specs.Sound.{SoundIn}
@@ -11,9 +11,9 @@ use Rattle.model.specs.Promises.{sweeping, Comes}
 use Rattle.model.proofs.pictures.Fronts.{own_opened}
 use Rattle.reading.specs.declared.stepping.Kind.{Kind}
 use Rattle.reading.specs.declared.stepping.Kind.TheVariants.{Free, Variable, Page}
-use Rattle.reading.specs.Stepping.{told_kind}
 use Rattle.reading.specs.declared.stepping.MetBlock.{MetBlock}
 use Rattle.reading.specs.declared.counting.Statistics.{Statistics}
+use Rattle.model.specs.declared.Position.{Position}
 use Rattle.model.specs.declared.refusals.Refusal.{Refusal}
 use Rattle.model.specs.declared.refusals.Refusal.TheVariants.{BadLength, NotOpened, NotSound, BadSize, NotLive, NoRoom, AlreadyOpened, BadEnd}
 use Rattle.serving.specs.declared.counting.Counted.{Counted}
@@ -83,43 +83,33 @@ swept_one (Ok n) (Err k) c c' e = absurd (omega (arith, refusal_some k, ap (λ (
 swept_one (Err k) (Ok n) c c' e = absurd (omega (arith, refusal_some k, ap (λ (o : Outcome). o.refusal) e))
 swept_one (Err k) (Err j) c c' e = (ap (λ (z : Refusal). Err z) (refusal_one k j (ap (λ (o : Outcome). o.refusal) e)), ap (λ (o : Outcome). o.heap) e)
 
--- a block by what it tells
-kind_back : reading.Kind → Kind
-kind_back (a_free next previous) = Free (record { 0 = next }) (record { 0 = previous })
-kind_back a_variable = Variable
-kind_back (a_page c) = Page c
-kind_back the_end = Variable
+-- a block by what it tells, and none by the end
+kind_back : reading.Kind → Option Kind
+kind_back (a_free next previous) = Some (Free (record { 0 = next }) (record { 0 = previous }))
+kind_back a_variable = Some Variable
+kind_back (a_page c) = Some (Page c)
+kind_back the_end = None
 
-kind_back_lem : (k : Kind) → kind_back (told_kind k) ≡ k
+kind_back_lem : (k : Option Kind) → kind_back (printed_kind k) ≡ k
 unfolding kind_back
-kind_back_lem (Free next previous) = refl
-kind_back_lem Variable = refl
-kind_back_lem (Page c) = refl
+kind_back_lem None = refl
+kind_back_lem (Some (Free next previous)) = refl
+kind_back_lem (Some Variable) = refl
+kind_back_lem (Some (Page c)) = refl
+
+abbrev met_with : Position → ℕ → Option Kind → Option MetBlock
+met_with p s k = option_map (λ (x : Kind). record { position = p; size = s; kind = x }) k
 
 abbrev met_back : reading.Step → Option MetBlock
-met_back t = Some (record { position = record { 0 = t.position }; size = t.size; kind = kind_back t.kind })
+met_back t = met_with (record { 0 = t.position }) t.size (kind_back t.kind)
 
-met_back_lem : (w n : ℕ) (b : MetBlock) → met_back (told_next w (Some b) n) ≡ Some b
-met_back_lem w n b = ap (λ (k : Kind). Some (record { position = b.position; size = b.size; kind = k })) (kind_back_lem b.kind)
-
--- no block tells the end
-is_end : reading.Kind → ℕ
-is_end (a_free next previous) = 0
-is_end a_variable = 0
-is_end (a_page c) = 0
-is_end the_end = 1
-
-no_end : (k : Kind) → the_end ≡ told_kind k → ⊥
-unfolding is_end
-no_end (Free next previous) e = omega (arith, ap is_end e)
-no_end Variable e = omega (arith, ap is_end e)
-no_end (Page c) e = omega (arith, ap is_end e)
+met_back_lem : (w n : ℕ) (m : Option MetBlock) → met_back (told_next w m n) ≡ m
+unfolding kind_back
+met_back_lem w n None = refl
+met_back_lem w n (Some b) = ap (met_with b.position b.size) (kind_back_lem (Some b.kind))
 
 met_one : (w : ℕ) (m m' : Option MetBlock) (n n' : ℕ) → told_next w m n ≡ told_next w m' n' → m ≡ m'
-met_one w None None n n' e = refl
-met_one w None (Some b) n n' e = absurd (no_end b.kind (ap (λ (t : reading.Step). t.kind) e))
-met_one w (Some b) None n n' e = absurd (no_end b.kind (ap (λ (t : reading.Step). t.kind) (sym e)))
-met_one w (Some b) (Some d) n n' e = sym (met_back_lem w n b) ∙ ap met_back e ∙ met_back_lem w n' d
+met_one w m m' n n' e = sym (met_back_lem w n m) ∙ ap met_back e ∙ met_back_lem w n' m'
 
 next_lem : (w : ℕ) (m : Option MetBlock) (n : ℕ) → (told_next w m n).next ≡ n
 next_lem w None n = refl
@@ -136,29 +126,9 @@ step_one w at (Ok s) (Err k) e = absurd (omega (arith, refusal_some k, ap (λ (x
 step_one w at (Err k) (Ok s) e = absurd (omega (arith, refusal_some k, ap (λ (x : Told reading.Step). x.refusal) e))
 step_one w at (Err k) (Err j) e = ap (λ (z : Refusal). Err z) (refusal_one k j (ap (λ (x : Told reading.Step). x.refusal) e))
 
--- the statistics by what they tell
-abbrev counted_back : Told reading.Statistics → Result Statistics Refusal
-counted_back t =
-    Ok (
-    record {
-      free_bytes = t.answer.free_bytes;
-      free_blocks = t.answer.free_blocks;
-      largest_free = t.answer.largest_free;
-      variables = t.answer.variables;
-      pages = t.answer.pages;
-      items = t.answer.items;
-    }
-    )
-
-counted_one : (r r' : Result Statistics Refusal) → told_counted r ≡ told_counted r' → r ≡ r'
-counted_one (Ok s) (Ok t) e = ap counted_back e
-counted_one (Ok s) (Err k) e = absurd (omega (arith, refusal_some k, ap (λ (x : Told reading.Statistics). x.refusal) e))
-counted_one (Err k) (Ok s) e = absurd (omega (arith, refusal_some k, ap (λ (x : Told reading.Statistics). x.refusal) e))
-counted_one (Err k) (Err j) e = ap (λ (z : Refusal). Err z) (refusal_one k j (ap (λ (x : Told reading.Statistics). x.refusal) e))
-
--- and what is printed of them, and of a step
-abbrev printed_count_back : Told reading.Statistics → Counted
-printed_count_back t =
+-- the statistics by what they tell, with their refusal as they are printed
+abbrev count_back : Told reading.Statistics → Counted
+count_back t =
     record {
       statistics = record {
         free_bytes = t.answer.free_bytes;
@@ -171,24 +141,21 @@ printed_count_back t =
       refusal = t.refusal;
     }
 
-printed_kind_back : reading.Kind → Option Kind
-printed_kind_back (a_free next previous) = Some (Free (record { 0 = next }) (record { 0 = previous }))
-printed_kind_back a_variable = Some Variable
-printed_kind_back (a_page c) = Some (Page c)
-printed_kind_back the_end = None
+abbrev counted_back : Told reading.Statistics → Result Statistics Refusal
+counted_back t = Ok (count_back t).statistics
 
-printed_kind_back_lem : (k : Option Kind) → printed_kind_back (printed_kind k) ≡ k
-unfolding printed_kind_back
-printed_kind_back_lem None = refl
-printed_kind_back_lem (Some (Free next previous)) = refl
-printed_kind_back_lem (Some Variable) = refl
-printed_kind_back_lem (Some (Page c)) = refl
+counted_one : (r r' : Result Statistics Refusal) → told_counted r ≡ told_counted r' → r ≡ r'
+counted_one (Ok s) (Ok t) e = ap counted_back e
+counted_one (Ok s) (Err k) e = absurd (omega (arith, refusal_some k, ap (λ (x : Told reading.Statistics). x.refusal) e))
+counted_one (Err k) (Ok s) e = absurd (omega (arith, refusal_some k, ap (λ (x : Told reading.Statistics). x.refusal) e))
+counted_one (Err k) (Err j) e = ap (λ (z : Refusal). Err z) (refusal_one k j (ap (λ (x : Told reading.Statistics). x.refusal) e))
 
-abbrev printed_step_back : Told reading.Step → Stepped
-printed_step_back t = record { refusal = t.refusal; position = record { 0 = t.answer.position }; size = t.answer.size; kind = printed_kind_back t.answer.kind; next = record { 0 = t.answer.next } }
+-- a step as it is printed
+abbrev step_back : Told reading.Step → Stepped
+step_back t = record { refusal = t.refusal; position = record { 0 = t.answer.position }; size = t.answer.size; kind = kind_back t.answer.kind; next = record { 0 = t.answer.next } }
 
-printed_step_back_lem : (r : Stepped) → printed_step_back (printed_step r) ≡ r
-printed_step_back_lem r = ap (λ (k : Option Kind). record { refusal = r.refusal; position = r.position; size = r.size; kind = k; next = r.next }) (printed_kind_back_lem r.kind)
+step_back_lem : (r : Stepped) → step_back (printed_step r) ≡ r
+step_back_lem r = ap (λ (k : Option Kind). record { refusal = r.refusal; position = r.position; size = r.size; kind = k; next = r.next }) (kind_back_lem r.kind)
 
 -- and the table
 abbrev table_back : Told (List (List ℕ)) → Result (List (List ℕ)) Refusal
@@ -317,9 +284,9 @@ module _ (w : ℕ) where
         tried_look_ups_mut = tried_mut_one;
         look_up_refusals = λ b a k k' x y. checked_one (shape w) b numbers _ _ k k' x y;
         statistics = λ b r r' x y. counted_one r r' (checked_one (shape w) b (tolds statistics) _ _ (told_counted r) (told_counted r') x y);
-        printed_counts = λ b r r' x y. ap printed_count_back (checked_one (shape w) b (tolds statistics) _ _ (printed_count r) (printed_count r') x y);
+        printed_counts = λ b r r' x y. ap count_back (checked_one (shape w) b (tolds statistics) _ _ (printed_count r) (printed_count r') x y);
         tables = λ b t t' x y. checked_one (shape w) b (lists (lists numbers)) _ _ t t' x y;
         tried_tables = λ b t t' x y. table_one w t t' (checked_one (shape w) b (tolds (lists (lists numbers))) _ _ (told_table w t) (told_table w t') x y);
         steps = λ b at r r' x y. step_one w at r r' (checked_one (shape w) b (tolds steps) _ _ (told_step w at r) (told_step w at r') x y);
-        printed_steps = λ b at r r' x y. sym (printed_step_back_lem r) ∙ ap printed_step_back (checked_one (shape w) b (tolds steps) _ _ (printed_step r) (printed_step r') x y) ∙ printed_step_back_lem r';
+        printed_steps = λ b at r r' x y. sym (step_back_lem r) ∙ ap step_back (checked_one (shape w) b (tolds steps) _ _ (printed_step r) (printed_step r') x y) ∙ step_back_lem r';
       }
