@@ -49,7 +49,7 @@ fn answer_step<W: Width, O: Write>(out: &mut O, h: &[u8], walk: Walk) -> io::Res
 
 // Statistics: the refusal number, and the six numbers.
 fn answer_statistics<W: Width, O: Write>(out: &mut O, h: &[u8]) -> io::Result<()> {
-    let counted = Counted::new(statistics::<W>(h));
+    let counted = Counted::from(statistics::<W>(h));
     let s = counted.statistics;
     write!(
         out,

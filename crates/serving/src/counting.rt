@@ -23,11 +23,11 @@ pub struct Counted {
     pub refusal: u64,
 }
 
-impl Counted {
-    // What is printed of the answer of `statistics`.
-    pub fn new(r: Result<Statistics, Refusal>) -> Counted
-        ensures { printed_count result ≡ told_counted r }
-    {
+// What is printed of the answer of `statistics`.
+impl From<Result<Statistics, Refusal>> for Counted {
+    ghost from_gives = { λ r c. printed_count c ≡ told_counted r };
+
+    fn from(r: Result<Statistics, Refusal>) -> Counted {
         match r {
             Ok(statistics) => Counted {
                 statistics,

@@ -58,27 +58,25 @@ impl Walk {
             kind: None,
             next: self.at,
         };
-        match r {
-            Err(k) => Stepped {
-                refusal: u64::from(k),
-                ..end
-            },
-            Ok(Step { block: None, walk }) => Stepped {
-                next: walk.at,
-                ..end
-            },
-            Ok(
-                Step {
-                    block: Some(b),
-                    walk,
-                },
-            ) => Stepped {
+        let step = match r {
+            Ok(step) => step,
+            Err(k) => {
+                return Stepped {
+                    refusal: u64::from(k),
+                    ..end
+                };
+            }
+        };
+        let next = step.walk.at;
+        match step.block {
+            Some(b) => Stepped {
                 refusal: 0,
                 position: b.position,
                 size: b.size,
                 kind: Some(b.kind),
-                next: walk.at,
+                next,
             },
+            None => Stepped { next, ..end },
         }
     }
 }
