@@ -86,9 +86,27 @@ module _ (w : ℕ) (b : List ℕ) where
         pub own_sound : Sound (shape w) d
         own_sound = record { layout = judged.1.layout; here = subst (λ (y : List ℕ). Here (shape w) y judged.1.layout) (sym o) judged.1.here.here }
 
-        pub examined_fine : Examined w b (Ok d)
+        pub examined_fit : Examined w b (Ok d)
         unfolding Examined
-        examined_fine = (judged, o)
+        examined_fit = (judged, o)
+
+  -- so each way shows the same of the examination
+  pub examined_length : (Lent (shape w) b → ⊥) → Examined w b (Err BadLength)
+  examined_length n = examined_unfit _ (judged_length n) _ refl
+
+  module _ (l : Lent (shape w) b) (m : ℕ) (e : m ≡ word_at magic_bytes b 0) where
+    pub examined_word : (m ≡ (shape w).magic → ⊥) → Examined w b (Err NotOpened)
+    examined_word n = examined_unfit _ (judged_word l m e n) _ refl
+
+    pub examined_end : m ≡ (shape w).magic → (x : ℕ) → x ≡ stored_end (shape w) b → (r : Bool) → Tells r (MayEnd (shape w) (length b) x) → r ≡ false → Examined w b (Err NotSound)
+    examined_end i x k r t f = examined_unfit _ (judged_end l m e i x k r t f) _ refl
+
+    pub examined_unsound : m ≡ (shape w).magic → (d : List ℕ) → d ≡ heap_of (shape w) b → (r : Bool) → Tells r (Sound (shape w) d) → r ≡ false → Examined w b (Err NotSound)
+    examined_unsound i d k r t f = examined_unfit _ (judged_unsound l m e i d k r t f) _ refl
+
+  module _ (l : Lent (shape w) b) (x : ℕ) (k : x ≡ stored_end (shape w) b) (m : MayEnd (shape w) (length b) x) (d : List ℕ) (o : d ≡ heap_of (shape w) b) where
+    pub examined_fine : (r : Bool) → Tells r (Sound (shape w) d) → r ≡ true → Examined w b (Ok d)
+    examined_fine r t e = examined_fit _ (judged_fine l x k m d o r t e) tt refl d o
 
   -- a heap that is fine, and what is lent of it
   pub fine_lent : (v : Result (List ℕ) Refusal) {o : List ℕ} → Examined w b v → v ≡ Ok o → (Lent (shape w) b × SoundIn (shape w) b) × (o ≡ heap_of (shape w) b)

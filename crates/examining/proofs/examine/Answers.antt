@@ -1,6 +1,6 @@
 use Rattle.std.proofs.Common.{arith}
 use Rattle.examining.specs.Examined.{Examined}
-use Rattle.examining.proofs.Examining.{passed_on, examined_unfit, judged, may_read, own_sound, examined_fine}
+use Rattle.examining.proofs.Examining.{passed_on, examined_unfit, judged, may_read, own_sound, examined_fit}
 use Rattle.examining.proofs.examine.Goals as goal
 
 pub returns-in_err-verdict : goal.returns-in_err-verdict
@@ -15,4 +15,4 @@ pub invariant_of-result : goal.invariant_of-result
 invariant_of-result g c = own_sound _ _ _ c.verdict.ensures _ c.in_ok-verdict.was _ c.heap_of-bytes.ensures
 
 pub returns : goal.returns
-returns g c = examined_fine _ _ _ c.verdict.ensures _ c.in_ok-verdict.was _ c.heap_of-bytes.ensures
+returns g c = examined_fit _ _ _ c.verdict.ensures _ c.in_ok-verdict.was _ c.heap_of-bytes.ensures
